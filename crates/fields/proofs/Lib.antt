@@ -1,0 +1,6 @@
+pub mod Fields
+pub mod First
+pub mod Texts
+pub mod Sets
+pub mod Jobs
+pub mod Sheets

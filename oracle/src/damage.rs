@@ -1,0 +1,185 @@
+//! Damage to good inputs.
+
+use crate::format::{Job, Line, Part, Piece};
+use crate::make;
+use crate::random::Rng;
+
+/// Text that refusal 3 is for: overlong forms, surrogates, cut characters, bytes that
+/// are never UTF-8, characters off the list; the last four are controls.
+const BAD_TEXTS: [&[u8]; 28] = [
+    b"\xC0\x80",
+    b"\xC1\xBF",
+    b"\xE0\x80\x80",
+    b"\xE0\x9F\xBF",
+    b"\xF0\x80\x80\x80",
+    b"\xF0\x8F\xBF\xBF",
+    b"\xED\xA0\x80",
+    b"\xED\xBF\xBF",
+    b"\xF4\x90\x80\x80",
+    b"\xF5\x80\x80\x80",
+    b"\x80",
+    b"\xBF",
+    b"\xC3",
+    b"\xE6\xBC",
+    b"\xFE",
+    b"\xFF",
+    b"\0",
+    "\u{ad}".as_bytes(),
+    "\u{180}".as_bytes(),
+    "\u{338}".as_bytes(),
+    "\u{3a2}".as_bytes(),
+    "\u{2028}".as_bytes(),
+    "\u{d7a4}".as_bytes(),
+    "\u{1f600}".as_bytes(),
+    "\n".as_bytes(),
+    "\u{7f}".as_bytes(),
+    "\u{85}".as_bytes(),
+    "\u{9f}".as_bytes(),
+];
+
+/// Bytes that mean something somewhere: flags, modes, segments, letters, ends of ranges.
+const TELLING_BYTES: [u8; 20] = [
+    0, 1, 2, 3, 4, 7, 9, 10, 11, 12, 0x1F, 0x7F, 0x80, 0xBF, 0xC0, 0xE0, 0xED, 0xF0, 0xF4, 0xFF,
+];
+
+const LETTERS: &[u8; 12] = b"HLSFBCWTPwtX";
+
+/// Damages bytes in one place.
+pub fn bytes(rng: &mut Rng, bytes: &mut Vec<u8>) {
+    if bytes.is_empty() {
+        bytes.push(rng.byte());
+        return;
+    }
+    let at = rng.below(bytes.len());
+    match rng.below(12) {
+        0 => bytes[at] ^= 1 << rng.below(8),
+        1 => bytes[at] = rng.byte(),
+        2 => bytes.insert(at, rng.byte()),
+        3 => drop(bytes.remove(at)),
+        4 => bytes.truncate(at),
+        5 => bytes.push(rng.pick(LETTERS)),
+        6 => insert_all(bytes, at, rng.pick(&BAD_TEXTS)),
+        7 => letter(rng, bytes),
+        8 => length(rng, bytes),
+        9 => repeat_field(rng, bytes),
+        _ => content(rng, bytes),
+    }
+}
+
+fn insert_all(bytes: &mut Vec<u8>, at: usize, more: &[u8]) {
+    bytes.splice(at..at, more.iter().copied());
+}
+
+/// Another letter.
+fn letter(rng: &mut Rng, bytes: &mut [u8]) {
+    if let Some((start, _)) = a_field(rng, bytes) {
+        bytes[start] = rng.pick(LETTERS);
+    }
+}
+
+/// Another length: one more, one less, none, the greatest.
+fn length(rng: &mut Rng, bytes: &mut [u8]) {
+    if let Some((start, _)) = a_field(rng, bytes) {
+        let old = u16::from_be_bytes([bytes[start + 1], bytes[start + 2]]);
+        let new = rng.pick(&[old.wrapping_add(1), old.wrapping_sub(1), 0, u16::MAX]);
+        bytes[start + 1..start + 3].copy_from_slice(&new.to_be_bytes());
+    }
+}
+
+/// A field twice, or moved to another field's place.
+fn repeat_field(rng: &mut Rng, bytes: &mut Vec<u8>) {
+    if let (Some((start, end)), Some((other, _))) = (a_field(rng, bytes), a_field(rng, bytes)) {
+        let field = bytes[start..end].to_vec();
+        insert_all(bytes, other, &field);
+    }
+}
+
+/// Another byte inside a field: the shape stays.
+fn content(rng: &mut Rng, bytes: &mut [u8]) {
+    if let Some((start, end)) = a_field(rng, bytes)
+        && start + 3 < end
+    {
+        let at = if rng.once_in(2) {
+            start + 3
+        } else {
+            rng.between(start + 3, end - 1)
+        };
+        bytes[at] = rng.pick(&TELLING_BYTES);
+    }
+}
+
+/// Another byte where the shape of a sheet, of cells or of prefixes does not see it: in
+/// a text, a name or a prefix, or a cell's width. Refusal 2 or 3, if any.
+pub fn value(rng: &mut Rng, bytes: &mut [u8]) {
+    let Some((start, end)) = a_field(rng, bytes) else {
+        return;
+    };
+    let at = match bytes[start] {
+        b'S' if start + 4 < end => rng.between(start + 4, end - 1),
+        b'F' | b'P' if start + 3 < end => rng.between(start + 3, end - 1),
+        b'C' if start + 3 < end => start + 3,
+        _ => return,
+    };
+    bytes[at] = rng.pick(&TELLING_BYTES);
+    if bytes[start] == b'C' && rng.once_in(2) {
+        bytes[at] = 0;
+    }
+}
+
+/// A field's start and end, inner fields included.
+fn a_field(rng: &mut Rng, bytes: &[u8]) -> Option<(usize, usize)> {
+    let mut found = Vec::new();
+    find_fields(bytes, 0, &mut found);
+    if found.is_empty() {
+        None
+    } else {
+        Some(rng.pick(&found))
+    }
+}
+
+fn find_fields(mut bytes: &[u8], mut start: usize, found: &mut Vec<(usize, usize)>) {
+    while let [letter, high, low, rest @ ..] = bytes {
+        let length = usize::from(u16::from_be_bytes([*high, *low]));
+        let Some((content, after)) = rest.split_at_checked(length) else {
+            return;
+        };
+        let end = start + 3 + length;
+        found.push((start, end));
+        match letter {
+            b'L' => find_fields(content, start + 3, found),
+            b'C' if length > 0 => find_fields(&content[1..], start + 4, found),
+            _ => (),
+        }
+        bytes = after;
+        start = end;
+    }
+}
+
+/// Puts a bad text into a text, before one of its bytes or at the end.
+pub fn spoil(rng: &mut Rng, text: &mut Vec<u8>) {
+    let at = rng.between(0, text.len());
+    insert_all(text, at, rng.pick(&BAD_TEXTS));
+}
+
+/// Spoils a part of a job, making one if there is none.
+pub fn spoil_job(rng: &mut Rng, job: &mut Job<Vec<u8>>) {
+    if job.parts.is_empty() {
+        job.parts.push(Part::Name(Vec::new()));
+    }
+    let place = rng.below(job.parts.len());
+    let (Part::Text { text, .. } | Part::Name(text)) = &mut job.parts[place];
+    spoil(rng, text);
+}
+
+/// Puts a line with a spoiled piece among the lines.
+pub fn spoil_lines(rng: &mut Rng, lines: &mut Vec<Line<Vec<u8>>>) {
+    let mut text = make::plain(rng, make::Style::Mixed, 6);
+    spoil(rng, &mut text);
+    let piece = if rng.once_in(2) {
+        Piece::Name(text)
+    } else {
+        Piece::Text { tag: 0, text }
+    };
+    let place = rng.between(0, lines.len());
+    lines.insert(place, Line::Text(vec![piece]));
+}

@@ -1,0 +1,26 @@
+//! The oracle: what html2text 0.17.4 answers to document 01's jobs and row calls.
+//!
+//! `format` and `checks` read the house format, `call` runs the crate's own code
+//! and gives the answer of a call, `record` is the file format of questions with
+//! answers, and `vectors` makes such files.
+
+// The crate's own text: macros, WhitespaceExt, WhiteSpace, Colour, config, render.
+include!(concat!(env!("OUT_DIR"), "/crate_root.rs"));
+
+/// Stands for the crate's error type, which `render` names once.
+#[allow(dead_code)]
+enum Error {
+    TooNarrow,
+}
+
+pub mod call;
+pub mod checks;
+mod damage;
+mod edges;
+pub mod format;
+mod guard;
+mod make;
+mod random;
+pub mod record;
+pub mod show;
+pub mod vectors;

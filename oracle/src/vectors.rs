@@ -1,0 +1,108 @@
+//! Files of records for comparing another program with the crate. A set draws the
+//! questions; here they are answered and written.
+
+mod checks;
+mod giants;
+mod jobs;
+mod rows;
+mod short;
+
+pub use checks::write as write_checks;
+
+use crate::call::Finding;
+use crate::random::Rng;
+use crate::record::Record;
+use crate::show;
+use std::collections::BTreeMap;
+use std::io::{self, Write};
+
+/// A source of questions.
+trait Set {
+    /// The next question, with its store.
+    fn next(&mut self) -> Result<Record, Finding>;
+
+    /// Sees the answer, to build on it.
+    fn learn(&mut self, _answered: &Record) {}
+}
+
+/// How many records got each number, and how many findings there were.
+#[derive(Default)]
+pub struct Tally {
+    pub numbers: BTreeMap<u8, usize>,
+    pub findings: usize,
+}
+
+/// The names of the sets.
+pub const SETS: [&str; 5] = ["short", "random", "damaged", "rows", "rows-damaged"];
+
+/// Writes `count` records of a set; `None` if there is no set of that name.
+pub fn write(
+    set: &str,
+    seed: u64,
+    count: usize,
+    out: &mut impl Write,
+) -> Option<io::Result<Tally>> {
+    let mut set: Box<dyn Set> = match set {
+        "short" => Box::new(short::Short::new(seed, count)),
+        "random" => Box::new(jobs::Random::new(seed)),
+        "damaged" => Box::new(jobs::Damaged::new(seed)),
+        "rows" => Box::new(rows::Rows::new(seed)),
+        "rows-damaged" => Box::new(rows::Damaged::new(seed)),
+        _ => return None,
+    };
+    Some(write_set(&mut *set, count, out))
+}
+
+fn write_set(set: &mut dyn Set, count: usize, out: &mut impl Write) -> io::Result<Tally> {
+    let mut tally = Tally::default();
+    for _ in 0..count {
+        let answered = set.next().and_then(|mut record| {
+            let answer = answer(&mut record)?;
+            set.learn(&record);
+            Ok((record, answer))
+        });
+        match answered {
+            Ok((record, number)) => {
+                record.write(out)?;
+                *tally.numbers.entry(number).or_default() += 1;
+            }
+            Err(finding) => {
+                eprintln!("FINDING: {}", finding.0);
+                tally.findings += 1;
+            }
+        }
+    }
+    Ok(tally)
+}
+
+/// Answers a record. A finding carries the whole record in hexadecimal.
+pub fn answer(record: &mut Record) -> Result<u8, Finding> {
+    match record.run() {
+        Ok(answer) => Ok(answer.number),
+        Err(finding) => Err(Finding(format!("{}; record {}", finding.0, whole(record)))),
+    }
+}
+
+fn whole(record: &Record) -> String {
+    let mut bytes = Vec::new();
+    record.write(&mut bytes).expect("writing to memory");
+    show::hex(&bytes)
+}
+
+/// Gives a record a store: around the length that its sheet needs, if it has one.
+fn with_store(rng: &mut Rng, mut record: Record) -> Result<Record, Finding> {
+    record.store = 0;
+    answer(&mut record)?;
+    let needed = record.reply.take().map_or(0, |reply| reply.answer.length);
+    record.store = match rng.below(12) {
+        _ if needed == 0 => rng.pick(&[0, 1, 5, 64, 300]),
+        0 | 1 => needed - 1,
+        2 => needed + 1,
+        3 => 0,
+        4 => rng.below(needed),
+        5 => needed + rng.below(300),
+        6 if rng.once_in(20) => needed.max(65_536),
+        _ => needed,
+    };
+    Ok(record)
+}

@@ -1,0 +1,148 @@
+//! Vectors for refusals 1 to 4 alone: single inputs and the number that each gets.
+
+use super::Tally;
+use crate::checks::{self, Input, MOST_UNITS};
+use crate::format::{Cell, Line, write_cells, write_job, write_prefixes, write_sheet};
+use crate::make::STYLES;
+use crate::random::Rng;
+use crate::record::three_bytes;
+use crate::{damage, edges, make};
+use std::io::{self, Write};
+
+const INPUTS: [Input; 4] = [Input::Job, Input::Sheet, Input::Cells, Input::Prefixes];
+
+/// The kinds in turn; jobs twice, since they alone have five numbers.
+const TURNS: [Input; 5] = [
+    Input::Job,
+    Input::Sheet,
+    Input::Job,
+    Input::Cells,
+    Input::Prefixes,
+];
+
+/// Writes `count` checks: the edges made by hand, then random inputs of all kinds in
+/// turn, as many for each number that a kind can get.
+pub fn write(seed: u64, count: usize, out: &mut impl Write) -> io::Result<Tally> {
+    let mut rng = Rng::new(seed);
+    let mut tally = Tally::default();
+    let edges = INPUTS.iter().flat_map(|input| {
+        let inputs = edges::of(*input).into_iter();
+        inputs.map(|bytes| (*input, bytes))
+    });
+    for (input, bytes) in edges.take(count) {
+        write_check(input, &bytes, &mut tally, out)?;
+    }
+    let written: usize = tally.numbers.values().sum();
+    for turn in 0..count - written {
+        let input = TURNS[turn % TURNS.len()];
+        let numbers = input.numbers();
+        let wanted = numbers[turn / TURNS.len() % numbers.len()];
+        let bytes = with_number(&mut rng, input, wanted);
+        write_check(input, &bytes, &mut tally, out)?;
+    }
+    Ok(tally)
+}
+
+fn write_check(
+    input: Input,
+    bytes: &[u8],
+    tally: &mut Tally,
+    out: &mut impl Write,
+) -> io::Result<()> {
+    let number = checks::number(input, bytes);
+    *tally.numbers.entry(number).or_default() += 1;
+    out.write_all(&[input as u8])?;
+    out.write_all(&three_bytes(bytes.len()))?;
+    out.write_all(bytes)?;
+    out.write_all(&[number])
+}
+
+/// An input that gets the number: drawn until it does.
+fn with_number(rng: &mut Rng, input: Input, wanted: u8) -> Vec<u8> {
+    loop {
+        let bytes = candidate(rng, input, wanted);
+        if checks::number(input, &bytes) == wanted {
+            return bytes;
+        }
+    }
+}
+
+/// An input with the fault that the number is for, perhaps with faults of later numbers.
+fn candidate(rng: &mut Rng, input: Input, wanted: u8) -> Vec<u8> {
+    let mut bytes = match input {
+        Input::Job => job(rng, wanted),
+        Input::Sheet => {
+            let lines = lines(rng, wanted);
+            write_sheet(&lines).expect("a small sheet")
+        }
+        Input::Cells => cells(rng, wanted),
+        Input::Prefixes => prefixes(rng, wanted),
+    };
+    if wanted == 1 {
+        damage::bytes(rng, &mut bytes);
+    }
+    bytes
+}
+
+/// Is a fault of this number wanted? Always its own, sometimes a later one.
+fn faulty(rng: &mut Rng, number: u8, wanted: u8) -> bool {
+    wanted == number || (wanted != 0 && wanted < number && rng.once_in(5))
+}
+
+fn job(rng: &mut Rng, wanted: u8) -> Vec<u8> {
+    let units = if faulty(rng, 4, wanted) {
+        MOST_UNITS + 1 + rng.below(3)
+    } else if rng.once_in(20) {
+        MOST_UNITS - rng.below(2)
+    } else {
+        rng.below(60)
+    };
+    let mut job = make::job(rng, units);
+    if faulty(rng, 2, wanted) {
+        job.width = 0;
+    }
+    if faulty(rng, 3, wanted) {
+        damage::spoil_job(rng, &mut job);
+    }
+    write_job(&job)
+}
+
+fn lines(rng: &mut Rng, wanted: u8) -> Vec<Line<Vec<u8>>> {
+    let mut lines = make::lines(rng, 8, 4);
+    if faulty(rng, 3, wanted) {
+        damage::spoil_lines(rng, &mut lines);
+    }
+    lines
+}
+
+fn cells(rng: &mut Rng, wanted: u8) -> Vec<u8> {
+    let count = rng.pick(&[0, 1, 2, 3, 3, 15, 16, 17]);
+    let cell = |rng: &mut Rng| Cell {
+        width: make::width(rng),
+        lines: make::lines(rng, 8, 4),
+    };
+    let mut cells: Vec<_> = (0..count).map(|_| cell(rng)).collect();
+    if count > 0 && faulty(rng, 2, wanted) {
+        cells[rng.below(count)].width = 0;
+    }
+    if count > 0 && faulty(rng, 3, wanted) {
+        let place = rng.below(count);
+        damage::spoil_lines(rng, &mut cells[place].lines);
+    }
+    write_cells(&cells)
+}
+
+fn prefixes(rng: &mut Rng, wanted: u8) -> Vec<u8> {
+    let count = rng.below(5);
+    let style = rng.pick(&STYLES);
+    let prefix = |rng: &mut Rng| {
+        let bytes = rng.below(9);
+        make::plain(rng, style, bytes)
+    };
+    let mut list: Vec<_> = (0..count).map(|_| prefix(rng)).collect();
+    if count > 0 && faulty(rng, 3, wanted) {
+        let place = rng.below(count);
+        damage::spoil(rng, &mut list[place]);
+    }
+    write_prefixes(&list)
+}
