@@ -12,7 +12,9 @@ oracle job                          answer the job on standard input
 oracle hex <hexadecimal>            answer the job given in hexadecimal
 oracle answer                       answer the records on standard input
 oracle vectors <set> <seed> <count> write answered records; sets: short random damaged rows rows-damaged
-oracle checks <seed> <count>        write inputs with their refusal 0 to 4
+oracle checks <seed> <count> [<longest>]
+                                    write inputs with their refusal 0 to 4, none longer than that
+                                    many bytes but edges made by hand, which go up to 8,192
 oracle segments                     print the table of border segments";
 
 /// More than any job's sheet needs.
@@ -26,7 +28,10 @@ fn main() -> ExitCode {
         ["hex", text] => show::unhex(text).ok_or_else(usage).and_then(show_job),
         ["answer"] => standard_input().and_then(|bytes| answer(&bytes)),
         ["vectors", set, seed, count] => write_vectors(set, seed, count),
-        ["checks", seed, count] => write_checks(seed, count),
+        ["checks", seed, count] => write_checks(seed, count, usize::MAX),
+        ["checks", seed, count, longest] => {
+            number(longest).and_then(|longest| write_checks(seed, count, longest as usize))
+        }
         ["segments"] => show_segments(),
         _ => Err(usage()),
     };
@@ -103,10 +108,10 @@ fn write_vectors(set: &str, seed: &str, count: &str) -> io::Result<ExitCode> {
     Ok(tell(&tally))
 }
 
-fn write_checks(seed: &str, count: &str) -> io::Result<ExitCode> {
+fn write_checks(seed: &str, count: &str, longest: usize) -> io::Result<ExitCode> {
     let (seed, count) = (number(seed)?, number(count)? as usize);
     let mut out = BufWriter::new(io::stdout().lock());
-    let tally = vectors::write_checks(seed, count, &mut out)?;
+    let tally = vectors::write_checks(seed, count, longest, &mut out)?;
     out.flush()?;
     Ok(tell(&tally))
 }

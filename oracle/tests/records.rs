@@ -69,7 +69,25 @@ fn broken_files() {
 #[test]
 fn checks_have_every_number() {
     let mut file = Vec::new();
-    let tally = vectors::write_checks(3, 4000, &mut file).unwrap();
+    let tally = vectors::write_checks(3, 4000, usize::MAX, &mut file).unwrap();
     assert_eq!(tally.numbers.values().sum::<usize>(), 4000);
     assert!((0..=4).all(|number| tally.numbers[&number] > 100));
+}
+
+/// Past the hand-made edges, of which there are fewer than 2,500, no input is longer.
+#[test]
+fn checks_up_to_a_length() {
+    let mut file = Vec::new();
+    let tally = vectors::write_checks(3, 4000, 100, &mut file).unwrap();
+    assert!((0..=4).all(|number| tally.numbers[&number] > 0));
+    let mut lengths = Vec::new();
+    let mut rest = &file[..];
+    while let [_kind, high, middle, low, after @ ..] = rest {
+        let length = u32::from_be_bytes([0, *high, *middle, *low]) as usize;
+        lengths.push(length);
+        rest = &after[length + 1..];
+    }
+    assert_eq!(lengths.len(), 4000);
+    assert!(lengths.iter().all(|length| *length <= 8192));
+    assert!(lengths[2500..].iter().all(|length| *length <= 100));
 }

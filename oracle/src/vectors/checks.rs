@@ -20,27 +20,39 @@ const TURNS: [Input; 5] = [
     Input::Prefixes,
 ];
 
+/// An edge made by hand is written up to this length, whatever the longest is, so that
+/// jobs of 4,096 and 4,097 units are always there.
+const EDGE: usize = 8_192;
+
 /// Writes `count` checks: the edges made by hand, then random inputs of all kinds in
-/// turn, as many for each number that a kind can get.
-pub fn write(seed: u64, count: usize, out: &mut impl Write) -> io::Result<Tally> {
+/// turn, as many for each number that a kind can get. Inputs longer than `longest` are
+/// left out.
+pub fn write(seed: u64, count: usize, longest: usize, out: &mut impl Write) -> io::Result<Tally> {
     let mut rng = Rng::new(seed);
     let mut tally = Tally::default();
     let edges = INPUTS.iter().flat_map(|input| {
         let inputs = edges::of(*input).into_iter();
         inputs.map(|bytes| (*input, bytes))
     });
+    let edges = edges.filter(|(_, bytes)| bytes.len() <= longest.max(EDGE));
     for (input, bytes) in edges.take(count) {
         write_check(input, &bytes, &mut tally, out)?;
     }
     let written: usize = tally.numbers.values().sum();
-    for turn in 0..count - written {
-        let input = TURNS[turn % TURNS.len()];
-        let numbers = input.numbers();
-        let wanted = numbers[turn / TURNS.len() % numbers.len()];
-        let bytes = with_number(&mut rng, input, wanted);
+    let random = (0..).map(|turn| random(&mut rng, turn));
+    let random = random.filter(|(_, bytes)| bytes.len() <= longest);
+    for (input, bytes) in random.take(count - written) {
         write_check(input, &bytes, &mut tally, out)?;
     }
     Ok(tally)
+}
+
+/// The random input of a turn.
+fn random(rng: &mut Rng, turn: usize) -> (Input, Vec<u8>) {
+    let input = TURNS[turn % TURNS.len()];
+    let numbers = input.numbers();
+    let wanted = numbers[turn / TURNS.len() % numbers.len()];
+    (input, with_number(rng, input, wanted))
 }
 
 fn write_check(

@@ -1,0 +1,11 @@
+pub mod Results
+pub mod FlatAnswer
+pub mod Width
+pub mod Cuts
+pub mod Narrow
+pub mod Bounds
+pub mod Group
+pub mod Same
+pub mod Equal
+pub mod Fuel
+pub mod Marked
