@@ -28,7 +28,7 @@ use Rattle.block.proofs.Width.{cols-space, no-text, Within, fits-wrappe
 
 -- ---- bytes of characters
 
-utf8-some : (c : ℕ) → 1 ≤ length (utf8 c)
+pub utf8-some : (c : ℕ) → 1 ≤ length (utf8 c)
 unfolding utf8
 utf8-some c =
     let P : List ℕ → Type 0 = λ bs. 1 ≤ length bs in
@@ -40,7 +40,7 @@ unfolding utf8
 wide-bytes = refl
 
 -- a blank that may be dropped has at most as many columns as bytes
-blank-bytes : (c : ℕ) → alwaysTakesSpace c ≡ false → cols c ≤ length (utf8 c)
+pub blank-bytes : (c : ℕ) → alwaysTakesSpace c ≡ false → cols c ≤ length (utf8 c)
 blank-bytes c e = go (eqb (cols c) 2) refl
   where
     go : (x : Bool) → eqb (cols c) 2 ≡ x → cols c ≤ length (utf8 c)
@@ -49,13 +49,13 @@ blank-bytes c e = go (eqb (cols c) 2) refl
         omega (arith, two, ap (λ (d : ℕ). length (utf8 d)) (white-two c (dropped-is-white c e) two), wide-bytes)
     go false q = omega (arith, cols-le-two c, eqb-false (cols c) 2 q, utf8-some c)
 
-fewer-bytes : (cs : List ℕ) → length cs ≤ length (textBytes cs)
+pub fewer-bytes : (cs : List ℕ) → length cs ≤ length (textBytes cs)
 unfolding textBytes
 fewer-bytes [] = omega arith
 fewer-bytes (c ∷ cs) = simp length-append (omega (arith, utf8-some c, fewer-bytes cs))
 
 -- the characters of a text have no more bytes than the text
-same-bytes : (bs : List ℕ) → length (textBytes (charsOr (chars bs))) ≤ length bs
+pub same-bytes : (bs : List ℕ) → length (textBytes (charsOr (chars bs))) ≤ length bs
 same-bytes bs = go (chars bs) refl
   where
     go : (o : Option (List ℕ)) → chars bs ≡ o → length (textBytes (charsOr o)) ≤ length bs
@@ -377,10 +377,10 @@ short-utf8 c =
     (λ _. by-if P (ltb c 0x800) (λ _. omega arith) (λ _. by-if P (ltb c 0x10000) (λ _. omega arith) (λ _. omega arith)))
 
 -- the bytes of a line's runs
-abbrev runsBytes : List Run → List ℕ
+abbrev pub runsBytes : List Run → List ℕ
 runsBytes ps = piecesBytes (map runPiece ps)
 
-length-field : (l : ℕ) (content : List ℕ) → length (field l content) ≡ 3 + length content
+pub length-field : (l : ℕ) (content : List ℕ) → length (field l content) ≡ 3 + length content
 unfolding field
 length-field l content = omega arith
 
@@ -663,15 +663,6 @@ bounded : (r : Result (List Line)) (n j k most-lines most : ℕ) → n ≤ most-
 bounded (good ls) n j k most-lines most hn hk a p q = (omega arith, short ls j k most hk p q)
 bounded tooNarrow n j k most-lines most hn hk a p q = tt
 
-lines-short : (ls : List Line) → Short 34824 ls → length (linesBytes (map sheetLine ls)) ≤ 34827 * length ls
-unfolding linesBytes
-lines-short [] h = omega arith
-lines-short (l ∷ ls) h = simp (length-append, length-field) (omega (arith, h .0, lines-short ls (h .1)))
-
-sheet-short : (ls : List Line) → Bounded 4096 34824 ls → length (sheetBytes (map sheetLine ls)) ≤ 142651397
-unfolding sheetBytes
-sheet-short ls h = simp (length-append, length-field) (omega (arith, h .0, lines-short ls (h .1)))
-
 module _ (s : Setup) (fs : List JobField) (positive : 0 < s .width) (byte : s .width < 256) (lightly : units fs ≤ 4096) where
   -- A job that passes 2 and 4, with a width of one byte, has at most 4,096 lines, each with a content of at most 34,824 bytes.
   pub bounds : OnGood (Bounded 4096 34824) (wrapped s fs)
@@ -684,7 +675,3 @@ module _ (s : Setup) (fs : List JobField) (positive : 0 < s .width) (byte : s .w
   never-long =
       bounded (wrapped s fs) (units fs) (s .width + 2) 32768 65535 65535 (omega arith) (omega arith)
       (few-lines s fs) (fits-wrapped s positive (s .width + 2) (omega arith) (λ _. omega arith) fs) (light-lines 32768 s fs (omega arith))
-
-  -- Its sheet has at most 142,651,397 bytes.
-  pub sheet-length : OnGood (λ (ls : List Line). length (sheetBytes (map sheetLine ls)) ≤ 142651397) (wrapped s fs)
-  sheet-length = good-map (wrapped s fs) (λ ls h. sheet-short ls h) bounds

@@ -9,3 +9,9 @@ pub mod Same
 pub mod Equal
 pub mod Fuel
 pub mod Marked
+pub mod Demands
+pub mod Neats
+pub mod Clean
+pub mod Length
+pub mod Besides
+pub mod Tight

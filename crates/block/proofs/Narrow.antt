@@ -251,16 +251,16 @@ NarrowPlace (put b) = ⊥
 NarrowPlace (alone b) = ⊥
 NarrowPlace narrow = Unit {0}
 
--- one or the other
-by-or {ℓ} : {X : Type ℓ} (a b : Bool) → (a || b) ≡ true → (a ≡ true → X) → (a ≡ false → b ≡ true → X) → X
+-- one test or the other, and back
+pub by-or {ℓ} : {X : Type ℓ} (a b : Bool) → (a || b) ≡ true → (a ≡ true → X) → (a ≡ false → b ≡ true → X) → X
 by-or true b e f g = f refl
 by-or false b e f g = g refl e
 
-or-intro-right : (a b : Bool) → b ≡ true → (a || b) ≡ true
+pub or-intro-right : (a b : Bool) → b ≡ true → (a || b) ≡ true
 or-intro-right true b e = refl
 or-intro-right false b e = e
 
-or-intro-left : (a b : Bool) → a ≡ true → (a || b) ≡ true
+pub or-intro-left : (a b : Bool) → a ≡ true → (a || b) ≡ true
 or-intro-left true b e = refl
 or-intro-left false b e = absurd (let z : _≡_ {A = ℕ} 0 1 = cc in omega arith)
 

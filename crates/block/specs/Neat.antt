@@ -1,5 +1,5 @@
 -- What the block's line and word look like between two characters: names never stand on a line without text, so a line with
--- entries has text. `Neat` of proofs/ shows that every step keeps it; the code rests on it where it closes a line that is not empty.
+-- entries has text. `Neats` of proofs/ shows that every step keeps it; the code rests on it where it closes a line that is not empty.
 -- Assumes nothing: these are definitions.
 use mathlib.Core.Path.{_≡_}
 use mathlib.Core.Bool.{Bool, true, false, not, _||_}

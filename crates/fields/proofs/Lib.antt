@@ -4,3 +4,4 @@ pub mod Texts
 pub mod Sets
 pub mod Jobs
 pub mod Sheets
+pub mod Back
