@@ -1,0 +1,92 @@
+// The character at the front of a text, and how many of a text's characters fit so many columns: the
+// `char_indices` loop and the `width` of `flush_word_hard_wrap`, over bytes. Each function answers for
+// bytes that are no text too; what it says of characters holds for those that the bytes are the UTF-8 of.
+use characters::columns::Columns;
+use characters::columns::columns_of;
+use characters::utf8::Decoded;
+use characters::utf8::decode;
+use fields::field::wide;
+ghost use mathlib.Core.Path.{_≡_};
+ghost use Prim.Native.Nat.{_*_, _^_, _≤_, _<_};
+ghost use lib.ListN.{length};
+ghost use Rattle.characters.specs.Columns.{cols};
+ghost use Rattle.hard_wrap.specs.Walk.{Shows, Fits, Widths};
+
+// A character's bytes and columns.
+pub struct Shape {
+    pub len: usize,
+    pub cols: usize,
+}
+
+// A place in a text, and the columns before it.
+pub struct Place {
+    pub at: usize,
+    pub used: usize,
+}
+
+// `UnicodeWidthChar::width(c).unwrap_or(0)`.
+fn columns_no(c: u32) -> usize
+    ensures { λ r. ⌜ r < 256 ⌝ }
+    ensures { λ r. ⌜ r ≡ cols c ⌝ }
+{
+    let k = columns_of(c);
+    match k {
+        Columns::Control => 0,
+        Columns::Cols(n) => wide(n),
+        Columns::OffList => 0,
+    }
+}
+
+// The first character.
+pub fn glyph(part: &[u8]) -> Shape
+    requires { ⌜ 0 < length (now part) ⌝ }
+    ensures { λ r. ⌜ (0 < r .len) × (r .len ≤ length (now (part .entry))) × (r .cols < 256) ⌝ }
+    ensures { λ r. ⌜ Shows (now (part .entry)) (r .len) (r .cols) ⌝ }
+{
+    let d = decode(part);
+    match d {
+        Decoded::Char { code, len } => {
+            let cols = columns_no(code);
+            Shape { len, cols }
+        }
+        Decoded::Bad => Shape { len: 1, cols: 0 },
+    }
+}
+
+// How much of a text fits so many columns: up to the first character that is too wide for what is left.
+pub fn fit(part: &[u8], left: usize) -> Place
+    requires { ⌜ left < 2 ^ 62 ⌝ }
+    ensures { λ r. ⌜ (r .at ≤ length (now (part .entry))) × (r .used ≤ left) ⌝ }
+    ensures { λ r. ⌜ Fits (now (part .entry)) left (r .at) (r .used) ⌝ }
+{
+    let mut i = 0;
+    let mut used = 0;
+    let at = 'walk: loop {
+        if i >= part.len() {
+            break 'walk i;
+        }
+        let g = glyph(&part[i..]);
+        if left - used < g.cols {
+            break 'walk i;
+        }
+        used += g.cols;
+        i += g.len;
+    };
+    Place { at, used }
+}
+
+// `UnicodeWidthStr::width`.
+pub fn width_of(part: &[u8]) -> usize
+    requires { ⌜ length (now part) < 2 ^ 40 ⌝ }
+    ensures { λ r. ⌜ r ≤ 256 * length (now (part .entry)) ⌝ }
+    ensures { λ r. ⌜ Widths (now (part .entry)) r ⌝ }
+{
+    let mut i = 0;
+    let mut used = 0;
+    while i < part.len() {
+        let g = glyph(&part[i..]);
+        used += g.cols;
+        i += g.len;
+    }
+    used
+}

@@ -1,0 +1,6 @@
+pub mod Buffers
+pub mod Heads
+pub mod Pieces
+pub mod Encoded
+pub mod HardWrap
+pub mod Kept
