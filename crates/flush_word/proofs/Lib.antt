@@ -1,0 +1,3 @@
+pub mod Trimming
+pub mod Flushing
+pub mod Wrapping
