@@ -20,7 +20,8 @@ use Rattle.characters.proofs.Tests.{by-if, and-left, and-right, or-left, or-rig
 use Rattle.characters.proofs.Tables.{takes-space-rust, cols-le-two}
 use Rattle.block.specs.Tag.{Tag, isPre}
 use Rattle.block.specs.Result.{Result, good, tooNarrow, _>>=_}
-use Rattle.block.specs.Flat.{char, name, Line, columns, hasText, pushChar, trimFront, Block, new, withWrapped, left, forceFlushLine, flushLine, Placed, put, alone, narrow, onLine, tooWide, isFirst, nextLine, wrapChar, goOn, hardWrap, flushWordHardWrap, putWord, atWrap, dropBlanks, writeBlank, writeBlanks, startsPre, carryOn, wrapWord, flushWord, Walk, walk, collapse, addBlank, addInk, addChar, breakWord, step, steps, addText, addElement, intoLines, charsOr, addField, addFields, wrapped}
+use Rattle.block.specs.Answer.{charsOr}
+use Rattle.block.specs.Flat.{char, name, Line, columns, hasText, pushChar, trimFront, Block, new, withWrapped, left, forceFlushLine, flushLine, Placed, put, alone, narrow, onLine, tooWide, isFirst, nextLine, wrapChar, goOn, hardWrap, flushWordHardWrap, putWord, atWrap, dropBlanks, writeBlank, writeBlanks, startsPre, carryOn, wrapWord, flushWord, Walk, walk, collapse, addBlank, addInk, addChar, breakWord, step, steps, addText, addElement, intoLines, addField, addFields, wrapped}
 use Rattle.block.specs.Demands.{NormalField, AllNormal, wide, anyWideChar, wideField, anyWide}
 use Rattle.block.proofs.Results.{OnGood, good-bind, MustGood, must-bind, Narrowed}
 use Rattle.block.proofs.FlatAnswer.{passes}

@@ -16,7 +16,8 @@ use Rattle.fields.specs.Job.{Mode, normal, pre, preWrap, JobField, text, fragme
 use Rattle.fields.specs.declared.job.Setup.{Setup}
 use Rattle.block.specs.Tag.{Tag, isPre, keepsSpace}
 use Rattle.block.specs.Result.{Result}
-use Rattle.block.specs.Flat.{Item, char, name, Line, columns, hasText, pushChar, spaces, keepLast, trimBack, Block, new, withWord, withBlanks, withWrapped, left, forceFlushLine, flushLine, Placed, put, alone, narrow, onLine, tooWide, isFirst, nextLine, wrapChar, goOn, hardWrap, flushWordHardWrap, blanks, putWord, atWrap, dropBlanks, writeBlank, writeBlanks, startsPre, carryOn, wrapWord, flushWord, Walk, walk, tabLoop, tab, newline, keepBlank, collapse, addBlank, addInk, addChar, breakWord, step, steps, addText, addElement, charsOr, addField, addFields}
+use Rattle.block.specs.Answer.{charsOr}
+use Rattle.block.specs.Flat.{Item, char, name, Line, columns, hasText, pushChar, spaces, keepLast, trimBack, Block, new, withWord, withBlanks, withWrapped, left, forceFlushLine, flushLine, Placed, put, alone, narrow, onLine, tooWide, isFirst, nextLine, wrapChar, goOn, hardWrap, flushWordHardWrap, blanks, putWord, atWrap, dropBlanks, writeBlank, writeBlanks, startsPre, carryOn, wrapWord, flushWord, Walk, walk, tabLoop, tab, newline, keepBlank, collapse, addBlank, addInk, addChar, breakWord, step, steps, addText, addElement, addField, addFields}
 use Rattle.block.specs.Neat.{hasName, hasInk, NeatLine, NeatWord, Neat}
 use Rattle.block.proofs.Results.{OnGood, good-bind}
 use Rattle.block.proofs.Narrow.{by-or, or-intro-right, or-intro-left}

@@ -17,7 +17,8 @@ use Rattle.characters.proofs.Tests.{by-if, and-right, clash}
 use Rattle.characters.proofs.Tables.{cols-le-two}
 use Rattle.block.specs.Tag.{Tag, tag, isPre, keepsSpace}
 use Rattle.block.specs.Result.{Result}
-use Rattle.block.specs.Flat.{Item, char, name, Line, columns, hasText, pushChar, spaces, padTo, keepLast, trimBack, Block, new, withWrapped, left, finished, forceFlushLine, flushLine, Placed, put, alone, narrow, onLine, tooWide, isFirst, nextLine, wrapChar, goOn, hardWrap, flushWordHardWrap, blanks, putWord, atWrap, dropBlanks, writeBlank, writeBlanks, startsPre, carryOn, wrapWord, flushWord, Walk, walk, tabLoop, tab, newline, keepBlank, collapse, addBlank, addInk, addChar, breakWord, step, steps, addText, addElement, intoLines, charsOr, addField, addFields, wrapped}
+use Rattle.block.specs.Answer.{charsOr}
+use Rattle.block.specs.Flat.{Item, char, name, Line, columns, hasText, pushChar, spaces, padTo, keepLast, trimBack, Block, new, withWrapped, left, finished, forceFlushLine, flushLine, Placed, put, alone, narrow, onLine, tooWide, isFirst, nextLine, wrapChar, goOn, hardWrap, flushWordHardWrap, blanks, putWord, atWrap, dropBlanks, writeBlank, writeBlanks, startsPre, carryOn, wrapWord, flushWord, Walk, walk, tabLoop, tab, newline, keepBlank, collapse, addBlank, addInk, addChar, breakWord, step, steps, addText, addElement, intoLines, addField, addFields, wrapped}
 use Rattle.block.proofs.Results.{OnGood, good-bind}
 
 -- ---- columns

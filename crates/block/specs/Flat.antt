@@ -21,6 +21,7 @@ use Rattle.fields.specs.Sheet as sheet
 use Rattle.fields.specs.declared.job.Setup.{Setup}
 use Rattle.block.specs.Tag.{Tag, tag, sameTag, isPre, keepsSpace}
 use Rattle.block.specs.Result.{Result, good, tooNarrow, _>>=_}
+use Rattle.block.specs.Answer.{charsOr}
 
 pub data Item : Type 0 where
   char : ℕ → Tag → Item
@@ -288,10 +289,6 @@ unfoldable pub intoLines : Setup → Block → Result (List Line)
 intoLines s b = flushWord s b >>= λ c. good ((flushLine s c) .text)
 
 -- ---- the call
-
-abbrev pub charsOr : Option (List ℕ) → List ℕ
-charsOr none = []
-charsOr (some cs) = cs
 
 unfoldable pub addField : Setup → JobField → Block → Result Block
 addField s (text m a c t) b = addText s m a c (charsOr (chars t)) b

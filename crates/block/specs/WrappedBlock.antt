@@ -3,8 +3,9 @@
 -- Assumes nothing: these are definitions.
 --
 -- `self` goes in and comes out; `self.f = x` is `set-f x self`; `?` is `>>=`. A place in a string (`bpos`, `idx`, `split_idx`) is
--- counted in characters. A `while` has fuel: more changes nothing (`Fuel`). A difference stops at 0 and `unwrap` of None is a tag:
--- neither comes up (`Equal`).
+-- counted in characters. A `while` has fuel: more changes nothing (`Fuel`). A difference stops at 0, where the Rust would panic, and
+-- `unwrap` of None is a tag: between two characters the line is no longer than the width and pending blanks have a tag (`sound` in
+-- `Equal`), and the Rust, run with overflow checks, met neither.
 use mathlib.Core.Bool.{Bool, true, false, not, _&&_, _||_}
 use mathlib.Core.Option.{Option, none, some}
 use mathlib.Core.List.{List, [], _∷_, _++_}

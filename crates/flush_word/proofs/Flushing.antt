@@ -26,6 +26,7 @@ use Rattle.flush_word.specs.Keep.{noWord, noBlanks, Pends, Keeps, Small,
 use Rattle.flush_word.specs.declared.state.Blanks.{Blanks}
 use Rattle.flush_word.specs.declared.state.State.{State}
 use Rattle.flush_word.specs.declared.space.Dropped.{Dropped}
+use Rattle.flush_word.proofs.Trimming.{num-mode}
 
 -- ---- blocks with the same lines
 
@@ -211,14 +212,10 @@ record Last (b : Block) (m : ℕ) : Type 0 where
   is : b .spacetag ≡ some tag
   mode : modeNo (tag .mode) ≡ m
 
-mode-number : (t : Tag) → t .ann < 256 → num t / 65536 ≡ modeNo (t .mode)
-unfolding num
-mode-number t h = omega arith
-
 last-of : (p : Blanks) (b : Block) (o : Option Tag) → b .spacetag ≡ o → Pends p o → (p .count ≡ 0 → ⊥) → Last b (p .tag / 65536)
 last-of p b none e h n = absurd (n h)
 last-of p b (some t) e h n =
-    record { tag = t; is = e; mode = sym (ap (λ (k : ℕ). k / 65536) (h .1) ∙ mode-number t (h .2)) }
+    record { tag = t; is = e; mode = sym (ap (λ (k : ℕ). k / 65536) (h .1) ∙ num-mode t (h .2)) }
 
 mode-normal : (m : Mode) → modeNo m ≡ 0 → m ≡ normal
 mode-normal normal e = refl

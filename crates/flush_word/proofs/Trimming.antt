@@ -26,8 +26,8 @@ use Rattle.block.specs.Tag.{Tag, isPre}
 use Rattle.block.specs.Flat.{Line, char, name, columns, trimFront, keepLast, trimBack, Block, left, atWrap, dropBlanks, startsPre}
 use Rattle.lines.specs.Items.{Item, item, byteOf, tagOf, zip, items, markTag, nameTag}
 use Rattle.lines.specs.Bridge.{modeNo, num, tagged, enc, Valid}
-use Rattle.lines.proofs.Buffers.{zip-bytes, zip-tags, zip-nil, items-length, items-more}
-use Rattle.lines.proofs.Encoded.{utf8-some, utf8-pos, num-small}
+use Rattle.lines.proofs.Buffers.{zip-bytes, zip-tags, zip-nil, items-length, items-more, zip-drop, drop-tagged}
+use Rattle.lines.proofs.Encoded.{utf8-some, utf8-pos, num-small, enc-none}
 use Rattle.hard_wrap.specs.declared.line.Open.{Open}
 use Rattle.hard_wrap.proofs.Words.{name-at}
 use Rattle.flush_word.specs.Trims.{White, TrimsFront, TrimsBack}
@@ -60,17 +60,6 @@ module _ (part : List ℕ) where
       absurd (let z : _≡_ {A = ℕ} 0 1 = cc in omega arith)
 
 -- ---- the front
-
-zip-drop : (n : ℕ) (bs ts : List ℕ) → zip (drop n bs) (drop n ts) ≡ drop n (zip bs ts)
-zip-drop zero bs ts = refl
-zip-drop (suc n) [] ts = refl
-zip-drop (suc n) (b ∷ bs) [] = zip-nil (drop n bs)
-zip-drop (suc n) (b ∷ bs) (t ∷ ts) = zip-drop n bs ts
-
-drop-tagged : (t : ℕ) (bs : List ℕ) (l : List Item) → drop (length bs) (tagged t bs ++ l) ≡ l
-unfolding tagged
-drop-tagged t [] l = refl
-drop-tagged t (b ∷ bs) l = drop-tagged t bs l
 
 bytes-tagged : (t : ℕ) (bs : List ℕ) (l : List Item) → map byteOf (tagged t bs ++ l) ≡ bs ++ map byteOf l
 unfolding tagged
@@ -127,16 +116,6 @@ module _ (bs ts : List ℕ) (same : length bs ≡ length ts) where
               same = rw q;
             }
         go false q f = absurd (omega arith)
-
-enc-none : (w : Line) → enc w ≡ [] → w ≡ []
-unfolding enc tagged
-enc-none [] e = refl
-enc-none (name n ∷ w) e = absurd (let z : _≡_ {A = ℕ} 0 1 = cc in omega arith)
-enc-none (char c t ∷ w) e =
-    absurd (
-    let u = utf8-some c in
-    let f : item (u .first) (num t) ∷ tagged (num t) (u .more) ++ enc w ≡ [] = ap (λ (z : List ℕ). tagged (num t) z ++ enc w) (sym (u .is)) ∙ e in
-    let z : _≡_ {A = ℕ} 0 1 = cc in omega arith)
 
 -- the loop over a word's front, at i
 module _ (wb wt : List ℕ) (same : length wb ≡ length wt) (i : ℕ) where
@@ -370,7 +349,7 @@ unfolding firstPre tagged
 pre-name [] l = refl
 pre-name (b ∷ n) l = pre-name n l
 
-num-mode : (t : Tag) → t .ann < 256 → num t / 65536 ≡ modeNo (t .mode)
+pub num-mode : (t : Tag) → t .ann < 256 → num t / 65536 ≡ modeNo (t .mode)
 unfolding num
 num-mode t h = omega arith
 

@@ -19,7 +19,7 @@ use Rattle.block.specs.Flat.{Line, char, name, Block, hasText, columns, pushCha
 use Rattle.lines.specs.Items.{Item, item, items, zip, tagOf, markTag, nameTag}
 use Rattle.lines.specs.Bridge.{num, tagged, enc, Valid, width}
 use Rattle.lines.proofs.Buffers.{items-none, items-length}
-use Rattle.lines.proofs.Encoded.{utf8-some}
+use Rattle.lines.proofs.Encoded.{utf8-some, enc-none}
 use Rattle.hard_wrap.specs.Hold.{setup, Holds}
 use Rattle.hard_wrap.specs.declared.line.Frame.{Frame}
 use Rattle.hard_wrap.specs.declared.line.Open.{Open}
@@ -27,19 +27,10 @@ use Rattle.hard_wrap.proofs.Closing.{puts}
 
 -- ---- a line that is closed where it has text
 
--- what encodes to nothing is nothing
-enc-empty : (l : Line) → enc l ≡ [] → l ≡ []
-unfolding enc tagged
-enc-empty [] e = refl
-enc-empty (name n ∷ l) e = absurd (let z : _≡_ {A = ℕ} 0 1 = cc in omega arith)
-enc-empty (char c t ∷ l) e =
-    let f = rw (utf8-some c .is) at e in
-    absurd (let z : _≡_ {A = ℕ} 0 1 = cc in omega arith)
-
 -- no entries, no line
 pub line-empty : (st : Open) (d₀ : List ℕ) (base : ℕ) (lb lt out : List ℕ) (b : Block) → Holds d₀ base b st lb lt out → st .n ≡ 0 → b .line ≡ []
 line-empty st d₀ base lb lt out b o e =
-    enc-empty (b .line) (sym (o .line) ∙ ap (items lb lt) e ∙ items-none lb lt)
+    enc-none (b .line) (sym (o .line) ∙ ap (items lb lt) e ∙ items-none lb lt)
 
 -- entries, so a line
 pub line-some : (st : Open) (d₀ : List ℕ) (base : ℕ) (lb lt out : List ℕ) (b : Block) → Holds d₀ base b st lb lt out

@@ -20,10 +20,11 @@ use Rattle.lines.specs.Encode.{lineField}
 use Rattle.lines.specs.Bridge.{num, tagged, enc, Valid, text, width}
 use Rattle.lines.proofs.Buffers.{items-none}
 use Rattle.lines.proofs.Encoded.{enc-append, enc-text, enc-spaces, valid-append, valid-text, valid-spaces, lines-snoc}
-use Rattle.lines.proofs.HardWrap.{columns-append, columns-text}
+use Rattle.lines.proofs.HardWrap.{columns-text}
 use Rattle.hard_wrap.specs.Hold.{setup, Holds, padded}
 use Rattle.hard_wrap.specs.declared.line.Frame.{Frame}
 use Rattle.hard_wrap.specs.declared.line.Open.{Open}
+use Rattle.block.proofs.Width.{columns-append}
 
 -- The closed lines are written from the base on.
 pub written : {d₀ : List ℕ} {base : ℕ} {b : Block} {st : Open} {lb lt out : List ℕ} → Holds d₀ base b st lb lt out

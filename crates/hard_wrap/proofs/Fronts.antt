@@ -13,8 +13,9 @@ use Rattle.block.specs.Flat.{Line, char, name}
 use Rattle.lines.specs.Items.{Item, item, zip, byteOf, tagOf, markTag, nameTag}
 use Rattle.lines.specs.Encode.{runT, startsWith}
 use Rattle.lines.specs.Bridge.{num, tagged, enc, Valid, text, Cut}
-use Rattle.lines.proofs.Buffers.{zip-bytes, zip-tags, zip-nil}
-use Rattle.lines.proofs.Encoded.{tag-eq, enc-append, enc-text, starts-cut, starts-after-name, run-text, run-name, num-small, utf8-some, valid-text-scalars}
+use Rattle.lines.proofs.Buffers.{zip-bytes, zip-tags, zip-nil, zip-drop, drop-tagged}
+use Rattle.lines.proofs.Encoded.{enc-append, enc-text, starts-cut, starts-after-name, run-text, run-name, num-small, utf8-some, valid-text-scalars}
+use Rattle.block.proofs.Group.{same-tag}
 
 -- the characters of one tag in front of a line, and what does not go on with them
 pub record Front (t : Tag) (l : Line) : Type 0 where
@@ -30,19 +31,8 @@ front t (name n ∷ l) = record { cs = []; more = name n ∷ l; is = refl; cut =
 front t (char c u ∷ l) = go (sameTag t u) refl (front t l)
   where
     go : (e : Bool) → sameTag t u ≡ e → Front t l → Front t (char c u ∷ l)
-    go true e f = record { cs = c ∷ f .cs; more = f .more; is = ap (λ (z : Tag). char c z ∷ l) (sym (tag-eq t u e)) ∙ ap (λ (z : Line). char c t ∷ z) (f .is); cut = f .cut }
+    go true e f = record { cs = c ∷ f .cs; more = f .more; is = ap (λ (z : Tag). char c z ∷ l) (sym (same-tag t u e)) ∙ ap (λ (z : Line). char c t ∷ z) (f .is); cut = f .cut }
     go false e f = record { cs = []; more = char c u ∷ l; is = refl; cut = e }
-
-zip-drop : (n : ℕ) (bs ts : List ℕ) → zip (drop n bs) (drop n ts) ≡ drop n (zip bs ts)
-zip-drop zero bs ts = refl
-zip-drop (suc n) [] ts = refl
-zip-drop (suc n) (b ∷ bs) [] = zip-nil (drop n bs)
-zip-drop (suc n) (b ∷ bs) (t ∷ ts) = zip-drop n bs ts
-
-drop-tagged : (t : ℕ) (x : List ℕ) (l : List Item) → drop (length x) (tagged t x ++ l) ≡ l
-unfolding tagged
-drop-tagged t [] l = refl
-drop-tagged t (b ∷ x) l = drop-tagged t x l
 
 bytes-front : (t : ℕ) (x : List ℕ) (l : List Item) → take (length x) (map byteOf (tagged t x ++ l)) ≡ x
 unfolding tagged

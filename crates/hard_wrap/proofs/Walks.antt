@@ -14,14 +14,11 @@ use Rattle.lines.specs.Bridge.{width}
 use Rattle.lines.proofs.Encoded.{textBytes-append, scalars-right, utf8-pos}
 use Rattle.lines.proofs.HardWrap.{width-append}
 use Rattle.hard_wrap.specs.Walk.{Shows, Going, Split}
-
--- What `&s[at..]` is.
-pub part-rest : (s : List ℕ) (at : ℕ) → take (length s - at) (drop at s) ≡ drop at s
-part-rest s at = take-all (length s - at) (drop at s) (le-of-eq (length-drop at s))
+use Rattle.fields.proofs.Texts.{rest}
 
 -- The length of that part.
 pub part-len : (s : List ℕ) (at : ℕ) → length (take (length s - at) (drop at s)) ≡ length s - at
-part-len s at = ap length (part-rest s at) ∙ length-drop at s
+part-len s at = ap length (rest s at) ∙ length-drop at s
 
 -- A text of no bytes has no characters.
 pub text-none : (cs : List ℕ) → length (textBytes cs) ≤ 0 → cs ≡ []

@@ -15,7 +15,7 @@ use Rattle.lines.specs.Items.{item, zip, markTag}
 use Rattle.lines.specs.Encode.{runT}
 use Rattle.lines.specs.Bridge.{num, tagged, enc, Valid, text, Cut}
 use Rattle.lines.proofs.Buffers.{zip-nil}
-use Rattle.lines.proofs.Encoded.{utf8-some}
+use Rattle.lines.proofs.Encoded.{utf8-some, enc-none}
 use Rattle.hard_wrap.specs.Hold.{setup, Holds, Pieced, Pieces, PieceIs, Worded}
 use Rattle.hard_wrap.specs.declared.line.Frame.{Frame}
 use Rattle.hard_wrap.specs.declared.line.Open.{Open}
@@ -31,16 +31,6 @@ pub record WordLeft (s : Setup) (d₀ : List ℕ) (base : ℕ) (b : Block) (w : 
   pub held : zip (drop at wb) (drop at wt) ≡ enc rest
   pub holds : Holds d₀ base next cur lb lt out
   pub same : hardWrap s w none b ≡ hardWrap s rest none next
-
-enc-none : (w : Line) → enc w ≡ [] → w ≡ []
-unfolding enc tagged
-enc-none [] e = refl
-enc-none (name n ∷ w) e = absurd (let z : _≡_ {A = ℕ} 0 1 = cc in omega arith)
-enc-none (char c t ∷ w) e =
-    absurd (
-    let u = utf8-some c in
-    let f : item (u .first) (num t) ∷ tagged (num t) (u .more) ++ enc w ≡ [] = ap (λ (z : List ℕ). tagged (num t) z ++ enc w) (sym (u .is)) ∙ e in
-    let z : _≡_ {A = ℕ} 0 1 = cc in omega arith)
 
 module _ (wb wt : List ℕ) (same : length wb ≡ length wt) (at : ℕ) (h : at < length wt) where
   here : drop at wt ≡ getD wt at 0 ∷ drop (suc at) wt

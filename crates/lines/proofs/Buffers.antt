@@ -43,7 +43,7 @@ pub zip-nil : (bs : List ℕ) → zip bs [] ≡ []
 zip-nil [] = refl
 zip-nil (b ∷ bs) = refl
 
-zip-drop : (n : ℕ) (bs ts : List ℕ) → zip (drop n bs) (drop n ts) ≡ drop n (zip bs ts)
+pub zip-drop : (n : ℕ) (bs ts : List ℕ) → zip (drop n bs) (drop n ts) ≡ drop n (zip bs ts)
 zip-drop zero bs ts = refl
 zip-drop (suc n) [] ts = refl
 zip-drop (suc n) (b ∷ bs) [] = zip-nil (drop n bs)
@@ -114,3 +114,9 @@ text-turn A old new t part i e f h = e ∙ rw (f, append-assoc, tagged-more)
 -- all of them
 pub text-done : (A new : List Item) (t : ℕ) (part : List ℕ) (i : ℕ) → new ≡ A ++ tagged t (take i part) → i ≤ length part → length part ≤ i → new ≡ A ++ tagged t part
 text-done A new t part i e h k = let q : i ≡ length part = omega arith in e ∙ ap (λ (l : List ℕ). A ++ tagged t l) (ap (λ (n : ℕ). take n part) q ∙ take-length part)
+
+-- what stands behind the bytes of one tag
+pub drop-tagged : (t : ℕ) (x : List ℕ) (l : List Item) → drop (length x) (tagged t x ++ l) ≡ l
+unfolding tagged
+drop-tagged t [] l = refl
+drop-tagged t (b ∷ x) l = drop-tagged t x l

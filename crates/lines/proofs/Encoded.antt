@@ -23,6 +23,7 @@ use Rattle.lines.specs.Items.{Item, item, markTag, nameTag, byteOf, tagO
 use Rattle.lines.specs.Encode.{joins, onFirst, startsWith, pieces, fieldOf, pieceField, pieceFields, content, lineField, runT}
 use Rattle.lines.specs.Bridge.{modeNo, num, tagged, enc, Valid, text, Cut}
 use Rattle.lines.proofs.Buffers.{tagged-append}
+use Rattle.block.proofs.Group.{same-tag}
 
 abbrev Bytes : Type 0
 Bytes = List Item
@@ -110,24 +111,6 @@ pub utf8-pos : (c : ℕ) → 0 < length (utf8 c)
 utf8-pos c = let u = utf8-some c in rw (u .is) (omega arith)
 
 -- ---- tags and their numbers
-
-mode-eq : (m n : Mode) → sameMode m n ≡ true → m ≡ n
-mode-eq normal normal e = refl
-mode-eq normal pre e = absurd (clash e refl)
-mode-eq normal preWrap e = absurd (clash e refl)
-mode-eq pre normal e = absurd (clash e refl)
-mode-eq pre pre e = refl
-mode-eq pre preWrap e = absurd (clash e refl)
-mode-eq preWrap normal e = absurd (clash e refl)
-mode-eq preWrap pre e = absurd (clash e refl)
-mode-eq preWrap preWrap e = refl
-
--- Tags that the test calls the same are equal.
-pub tag-eq : (t u : Tag) → sameTag t u ≡ true → t ≡ u
-tag-eq t u e =
-    let a : t .ann ≡ u .ann = eqb-true (t .ann) (u .ann) (and-left (eqb (t .ann) (u .ann)) (sameMode (t .mode) (u .mode)) e) in
-    let m : t .mode ≡ u .mode = mode-eq (t .mode) (u .mode) (and-right (eqb (t .ann) (u .ann)) (sameMode (t .mode) (u .mode)) e) in
-    λ i. record { ann = a i; mode = m i }
 
 mode-no : (m : Mode) → modeNo m ≤ 2
 mode-no normal = omega arith
@@ -281,7 +264,7 @@ join-enc c t (run u cs ∷ ps) = go (sameTag t u) refl
   where
     go : (e : Bool) → sameTag t u ≡ e → map encRun (if e then run u (c ∷ cs) ∷ ps else run t (c ∷ []) ∷ run u cs ∷ ps)
         ≡ cond e ((tagged (num t) (utf8 c) ++ tagged (num u) (textBytes cs)) ∷ map encRun ps) (tagged (num t) (utf8 c) ∷ tagged (num u) (textBytes cs) ∷ map encRun ps)
-    go true e = rw (tag-eq t u e, tagged-append (num u) (utf8 c) (textBytes cs))
+    go true e = rw (same-tag t u e, tagged-append (num u) (utf8 c) (textBytes cs))
     go false e = rw append-nil
 
 join-first : (t u : Tag) (c : ℕ) (ps : List Run) → firstSame t (join c u ps) ≡ sameTag t u
@@ -290,7 +273,7 @@ join-first t u c (mark n ∷ ps) = refl
 join-first t u c (run v cs ∷ ps) = go (sameTag u v) refl
   where
     go : (e : Bool) → sameTag u v ≡ e → firstSame t (if e then run v (c ∷ cs) ∷ ps else run u (c ∷ []) ∷ run v cs ∷ ps) ≡ sameTag t u
-    go true e = rw (tag-eq u v e)
+    go true e = rw (same-tag u v e)
     go false e = refl
 
 starts-same : (t : Tag) (l : Line) → t .ann < 256 → Valid l → startsWith (num t) (enc l) ≡ firstSame t (runs l)
@@ -300,7 +283,7 @@ starts-same t (name n ∷ l) h v = starts-name (num t) n l
 starts-same t (char c u ∷ l) h (x, g, v) = starts-char (num t) c u l ∙ go (sameTag t u) refl ∙ sym (join-first t u c (runs l))
   where
     go : (e : Bool) → sameTag t u ≡ e → joins (num t) (num u) ≡ sameTag t u
-    go true e = rw (tag-eq t u e) (joins-self (num u) (num-small u g) ∙ sym (sym (ap (λ (z : Tag). sameTag z u) (tag-eq t u e)) ∙ e))
+    go true e = rw (same-tag t u e) (joins-self (num u) (num-small u g) ∙ sym (sym (ap (λ (z : Tag). sameTag z u) (same-tag t u e)) ∙ e))
     go false e = joins-not (num t) (num u) (num-small u g) (num-ne t u h g e) ∙ sym e
 
 -- the pieces of a line's items are the line's pieces
@@ -375,3 +358,14 @@ pub lines-snoc : (ls : List Line) (l : Line) → Valid l → linesBytes (map she
 unfolding linesBytes
 lines-snoc [] l v = append-nil _ ∙ sym (line-bytes l v)
 lines-snoc (k ∷ ls) l v = rw (lines-snoc ls l v, append-assoc)
+
+-- what encodes to nothing is nothing
+pub enc-none : (w : Line) → enc w ≡ [] → w ≡ []
+unfolding enc tagged
+enc-none [] e = refl
+enc-none (name n ∷ w) e = absurd (let z : _≡_ {A = ℕ} 0 1 = cc in omega arith)
+enc-none (char c t ∷ w) e =
+    absurd (
+    let u = utf8-some c in
+    let f : item (u .first) (num t) ∷ tagged (num t) (u .more) ++ enc w ≡ [] = ap (λ (z : List ℕ). tagged (num t) z ++ enc w) (sym (u .is)) ∙ e in
+    let z : _≡_ {A = ℕ} 0 1 = cc in omega arith)

@@ -18,13 +18,8 @@ use Rattle.block.specs.Tag.{Tag, sameTag, sameMode}
 use Rattle.block.specs.Result.{tooNarrow}
 use Rattle.block.specs.Flat.{char, name, Line, columns, pushChar, Block, withLine, left, forceFlushLine, alone, narrow, onLine, tooWide, isFirst, nextLine, wrapChar, goOn, hardWrap}
 use Rattle.lines.specs.Bridge.{text, width, Cut}
-
--- The columns of two lines, put together.
-pub columns-append : (a b : Line) → columns (a ++ b) ≡ columns a + columns b
-unfolding columns
-columns-append [] b = sym (zero-add (columns b))
-columns-append (char c t ∷ a) b = let ih = columns-append a b in omega arith
-columns-append (name n ∷ a) b = columns-append a b
+use Rattle.block.proofs.Width.{columns-append}
+use Rattle.block.proofs.Group.{same-self}
 
 -- The columns of a text of one tag are its width.
 pub columns-text : (t : Tag) (cs : List ℕ) → columns (text t cs) ≡ width cs
@@ -48,10 +43,6 @@ same-mode normal = refl
 same-mode pre = refl
 same-mode preWrap = refl
 
--- A tag is the same as itself.
-pub same-tag : (t : Tag) → sameTag t t ≡ true
-same-tag t = rw (eq-eqb (t .ann) (t .ann) refl, same-mode (t .mode))
-
 -- the tag of the last character, after a stretch of one tag
 abbrev pub after : Tag → List ℕ → Option Tag → Option Tag
 after t [] last = last
@@ -71,7 +62,7 @@ left-flushed s b = let e = flushed-cols s b in omega arith
 
 no-first : (t : Tag) (p : List ℕ) (l : Line) → 0 < length p + columns l → (isFirst (after t p none) t && eqb (columns (l ++ text t p)) 0) ≡ false
 no-first t [] l h = rw append-nil (ne-eqb (columns l) 0 (λ e. omega arith))
-no-first t (c ∷ p) l h = rw (same-tag t)
+no-first t (c ∷ p) l h = rw (same-self t)
 
 module _ (s : Setup) where
   one-fits : (c : ℕ) (t : Tag) (w : Line) (last : Option Tag) (b : Block) → cols c ≤ left s b → hardWrap s (char c t ∷ w) last b ≡ hardWrap s w (some t) (onLine c t b)

@@ -8,10 +8,11 @@ use lib.ListN.{length, drop}
 use Rattle.block.specs.Flat.{Line}
 use Rattle.lines.specs.Items.{zip}
 use Rattle.lines.specs.Bridge.{enc, Valid}
-use Rattle.hard_wrap.proofs.Walks.{part-rest, part-len}
+use Rattle.hard_wrap.proofs.Walks.{part-len}
 use Rattle.flush_word.proofs.Trimming.{Rest, front-end, front-name, front-stop, front-on}
 use Rattle.flush_word.proofs.trim.white_front.Statement.{statement}
 use Rattle.flush_word.proofs.trim.white_front.Tie as tie
+use Rattle.fields.proofs.Texts.{rest as part-rest}
 
 abbrev Inv-loop : tie.InvT-loop
 Inv-loop wb wt i₀ i = (i ≤ length wt) × ((w : Line) → Valid w → zip wb wt ≡ enc w → Rest w (drop i wb) (drop i wt))

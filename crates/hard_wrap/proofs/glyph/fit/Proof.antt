@@ -8,9 +8,10 @@ use lib.ListN.{length}
 use Rattle.characters.specs.Utf8.{textBytes}
 use Rattle.characters.proofs.RoundTrip.{Scalars}
 use Rattle.hard_wrap.specs.Walk.{Going}
-use Rattle.hard_wrap.proofs.Walks.{part-rest, part-len, going-start, going-on, going-stop, going-end}
+use Rattle.hard_wrap.proofs.Walks.{part-len, going-start, going-on, going-stop, going-end}
 use Rattle.hard_wrap.proofs.glyph.fit.Statement.{statement}
 use Rattle.hard_wrap.proofs.glyph.fit.Tie as tie
+use Rattle.fields.proofs.Texts.{rest as part-rest}
 
 abbrev Inv-walk : tie.InvT-walk
 Inv-walk part left i₀ used₀ i used = (i ≤ length part) × (used ≤ left) × ((cs : List ℕ) → Scalars cs → part ≡ textBytes cs → Going part cs i used)

@@ -10,9 +10,10 @@ use lib.ListN.{length}
 use Rattle.lines.specs.Bridge.{width}
 use Rattle.hard_wrap.specs.Hold.{setup}
 use Rattle.hard_wrap.proofs.Piecewise.{Walked, piece-start, piece-turn, piece-rest, piece-end}
-use Rattle.hard_wrap.proofs.Walks.{part-rest, part-len}
+use Rattle.hard_wrap.proofs.Walks.{part-len}
 use Rattle.hard_wrap.proofs.wrap.wrap_piece.Statement.{statement}
 use Rattle.hard_wrap.proofs.wrap.wrap_piece.Tie as tie
+use Rattle.fields.proofs.Texts.{rest as part-rest}
 
 abbrev Inv-loop : tie.InvT-loop
 Inv-loop frame lb₀ lt₀ piece tag out₀ w cur₀ wpos₀ bpos₀ lb lt out cur wpos bpos = Walked frame lb₀ lt₀ piece tag out₀ cur₀ lb lt out cur wpos bpos
