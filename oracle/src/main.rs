@@ -11,7 +11,11 @@ const USAGE: &str = "\
 oracle job                          answer the job on standard input
 oracle hex <hexadecimal>            answer the job given in hexadecimal
 oracle answer                       answer the records on standard input
-oracle vectors <set> <seed> <count> write answered records; sets: short random damaged rows rows-damaged
+oracle vectors <set> <seed> <count> [<longest>]
+                                    write answered records; sets: short random damaged rows rows-damaged;
+                                    none whose inputs and sheet have more than that many bytes
+                                    but edges made by hand, which go up to 16,384, and then
+                                    no store longer than 65,536
 oracle checks <seed> <count> [<longest>]
                                     write inputs with their refusal 0 to 4, none longer than that
                                     many bytes but edges made by hand, which go up to 8,192
@@ -27,7 +31,10 @@ fn main() -> ExitCode {
         ["job"] => standard_input().and_then(show_job),
         ["hex", text] => show::unhex(text).ok_or_else(usage).and_then(show_job),
         ["answer"] => standard_input().and_then(|bytes| answer(&bytes)),
-        ["vectors", set, seed, count] => write_vectors(set, seed, count),
+        ["vectors", set, seed, count] => write_vectors(set, seed, count, None),
+        ["vectors", set, seed, count, longest] => {
+            number(longest).and_then(|longest| write_vectors(set, seed, count, Some(longest)))
+        }
         ["checks", seed, count] => write_checks(seed, count, usize::MAX),
         ["checks", seed, count, longest] => {
             number(longest).and_then(|longest| write_checks(seed, count, longest as usize))
@@ -100,10 +107,11 @@ fn answer(bytes: &[u8]) -> io::Result<ExitCode> {
     Ok(tell(&tally))
 }
 
-fn write_vectors(set: &str, seed: &str, count: &str) -> io::Result<ExitCode> {
+fn write_vectors(set: &str, seed: &str, count: &str, longest: Option<u64>) -> io::Result<ExitCode> {
     let (seed, count) = (number(seed)?, number(count)? as usize);
+    let longest = longest.map(|longest| longest as usize);
     let mut out = BufWriter::new(io::stdout().lock());
-    let tally = vectors::write(set, seed, count, &mut out).ok_or_else(usage)??;
+    let tally = vectors::write(set, seed, count, longest, &mut out).ok_or_else(usage)??;
     out.flush()?;
     Ok(tell(&tally))
 }

@@ -118,6 +118,12 @@ impl Record {
         call::row(&sheet, input(0), row, store)
     }
 
+    /// How many bytes the inputs and the sheet have.
+    pub fn weight(&self) -> usize {
+        let inputs: usize = self.inputs.iter().map(Vec::len).sum();
+        inputs + self.reply.as_ref().map_or(0, |reply| reply.sheet.len())
+    }
+
     /// Writes the record.
     pub fn write(&self, out: &mut impl Write) -> io::Result<()> {
         out.write_all(&[self.kind as u8])?;

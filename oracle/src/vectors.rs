@@ -23,7 +23,19 @@ trait Set {
 
     /// Sees the answer, to build on it.
     fn learn(&mut self, _answered: &Record) {}
+
+    /// Was the last question made by hand?
+    fn by_hand(&self) -> bool {
+        false
+    }
 }
+
+/// A record made by hand is written up to this weight, whatever the longest is, so that
+/// jobs of 4,096 and 4,097 units are always there.
+const EDGE: usize = 16_384;
+
+/// The longest store where a longest is given, that of the program `sheet`.
+const STORE: usize = 65_536;
 
 /// How many records got each number, and how many findings there were.
 #[derive(Default)]
@@ -32,14 +44,22 @@ pub struct Tally {
     pub findings: usize,
 }
 
+impl Tally {
+    fn total(&self) -> usize {
+        self.numbers.values().sum::<usize>() + self.findings
+    }
+}
+
 /// The names of the sets.
 pub const SETS: [&str; 5] = ["short", "random", "damaged", "rows", "rows-damaged"];
 
-/// Writes `count` records of a set; `None` if there is no set of that name.
+/// Writes `count` records of a set; `None` if there is no set of that name. Records whose
+/// inputs and sheet are longer than `longest` are left out, if there is such a bound.
 pub fn write(
     set: &str,
     seed: u64,
     count: usize,
+    longest: Option<usize>,
     out: &mut impl Write,
 ) -> Option<io::Result<Tally>> {
     let mut set: Box<dyn Set> = match set {
@@ -50,18 +70,24 @@ pub fn write(
         "rows-damaged" => Box::new(rows::Damaged::new(seed)),
         _ => return None,
     };
-    Some(write_set(&mut *set, count, out))
+    Some(write_set(&mut *set, count, longest, out))
 }
 
-fn write_set(set: &mut dyn Set, count: usize, out: &mut impl Write) -> io::Result<Tally> {
+fn write_set(
+    set: &mut dyn Set,
+    count: usize,
+    longest: Option<usize>,
+    out: &mut impl Write,
+) -> io::Result<Tally> {
     let mut tally = Tally::default();
-    for _ in 0..count {
+    while tally.total() < count {
         let answered = set.next().and_then(|mut record| {
             let answer = answer(&mut record)?;
             set.learn(&record);
             Ok((record, answer))
         });
         match answered {
+            Ok((record, _)) if is_long(&record, set.by_hand(), longest) => (),
             Ok((record, number)) => {
                 record.write(out)?;
                 *tally.numbers.entry(number).or_default() += 1;
@@ -73,6 +99,12 @@ fn write_set(set: &mut dyn Set, count: usize, out: &mut impl Write) -> io::Resul
         }
     }
     Ok(tally)
+}
+
+/// Is the record to be left out for its length?
+fn is_long(record: &Record, by_hand: bool, longest: Option<usize>) -> bool {
+    let most = |longest: usize| if by_hand { longest.max(EDGE) } else { longest };
+    longest.is_some_and(|longest| record.weight() > most(longest) || record.store > STORE)
 }
 
 /// Answers a record. A finding carries the whole record in hexadecimal.

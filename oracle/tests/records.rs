@@ -6,7 +6,7 @@ use oracle::vectors::{self, SETS};
 /// A set's file and its records, read back.
 fn read_set(set: &str, seed: u64, count: usize) -> (Vec<u8>, Vec<Record>) {
     let mut file = Vec::new();
-    let tally = vectors::write(set, seed, count, &mut file)
+    let tally = vectors::write(set, seed, count, None, &mut file)
         .unwrap()
         .unwrap();
     assert_eq!(tally.findings, 0, "{set}");
@@ -72,6 +72,27 @@ fn checks_have_every_number() {
     let tally = vectors::write_checks(3, 4000, usize::MAX, &mut file).unwrap();
     assert_eq!(tally.numbers.values().sum::<usize>(), 4000);
     assert!((0..=4).all(|number| tally.numbers[&number] > 100));
+}
+
+/// Past the hand-made jobs, of which there are fewer than 600, no record is longer. Among
+/// them are jobs of 4,096 units, and of 4,097, which alone are overfull.
+#[test]
+fn vectors_up_to_a_length() {
+    let mut file = Vec::new();
+    let tally = vectors::write("damaged", 3, 900, Some(100), &mut file)
+        .unwrap()
+        .unwrap();
+    assert!((0..=5).all(|number| tally.numbers[&number] > 0));
+    let records = read_all(&file).unwrap();
+    assert_eq!(records.len(), 900);
+    assert!(records.iter().all(|record| record.weight() <= 16_384));
+    assert!(records[600..].iter().all(|record| record.weight() <= 100));
+    for units in [4096, 4097] {
+        let names = [b"W\0\x03\x08\0\0", &b"F\0\0".repeat(units)[..]].concat();
+        let record = records.iter().find(|record| record.inputs[0] == names);
+        let reply = record.unwrap().reply.as_ref().unwrap();
+        assert_eq!(reply.answer.number == 4, units == 4097);
+    }
 }
 
 /// Past the hand-made edges, of which there are fewer than 2,500, no input is longer.

@@ -33,6 +33,7 @@ impl Set for Random {
 pub struct Damaged {
     rng: Rng,
     edges: Vec<Vec<u8>>,
+    by_hand: bool,
 }
 
 impl Damaged {
@@ -42,6 +43,7 @@ impl Damaged {
         Damaged {
             rng: Rng::new(seed),
             edges,
+            by_hand: true,
         }
     }
 }
@@ -49,8 +51,14 @@ impl Damaged {
 impl Set for Damaged {
     fn next(&mut self) -> Result<Record, Finding> {
         let rng = &mut self.rng;
-        let job = self.edges.pop().unwrap_or_else(|| damaged(rng));
+        let edge = self.edges.pop();
+        self.by_hand = edge.is_some();
+        let job = edge.unwrap_or_else(|| damaged(rng));
         with_store(rng, Record::job(job))
+    }
+
+    fn by_hand(&self) -> bool {
+        self.by_hand
     }
 }
 

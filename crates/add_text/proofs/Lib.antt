@@ -1,0 +1,5 @@
+pub mod Wording
+pub mod Stopping
+pub mod Breaking
+pub mod Inking
+pub mod Walking

@@ -1,0 +1,103 @@
+// What a character that ends no line does: a character of a word, and a blank that is kept or collapses.
+use flush_word::state::Blanks;
+use flush_word::state::State;
+use flush_word::state::Word;
+use hard_wrap::line::Frame;
+use lines::buffer::push_text;
+ghost use mathlib.Core.Path.{_≡_};
+ghost use Prim.Native.Nat.{_+_, _<_, _≤_};
+ghost use lib.ListN.{length};
+ghost use Rattle.flush_word.specs.Keep.{Small, Lent};
+ghost use Rattle.add_text.specs.Chars.{Fits, PushesWord, KeepsBlank, Collapses};
+
+// A character after the word's (`push_char`).
+pub fn push_word(
+    frame: Frame,
+    st: State,
+    wb: &mut [u8],
+    wt: &mut [u32],
+    part: &[u8],
+    cols: usize,
+    tag: u32,
+) -> State
+    requires { ⌜ Small frame st × Lent frame 4608 4608 (length (now wb)) (length (now wt)) ⌝ }
+    requires { ⌜ Fits st (length (now part)) cols ⌝ }
+    ensures { λ r. ⌜ Small frame r × (r .used ≡ st .used + length (now (part .entry))) ⌝ }
+    ensures { λ r. ⌜ PushesWord st (now (part .entry)) cols tag (now (wb .entry)) (now (wt .entry)) r (now (wb .exit)) (now (wt .exit)) ⌝ }
+{
+    let line = st.line;
+    let word = st.word;
+    let blanks = st.blanks;
+    let n = push_text(wb, wt, word.n, part, tag);
+    let longer = Word {
+        n,
+        cols: word.cols + cols,
+        text: true,
+    };
+    State {
+        line,
+        word: longer,
+        blanks,
+        wrapped: st.wrapped,
+        used: st.used + part.len(),
+    }
+}
+
+// A blank where white space is kept: it joins a word that has text, and else it pends.
+pub fn keep_blank(
+    frame: Frame,
+    st: State,
+    wb: &mut [u8],
+    wt: &mut [u32],
+    part: &[u8],
+    cols: usize,
+    tag: u32,
+) -> State
+    requires { ⌜ Small frame st × Lent frame 4608 4608 (length (now wb)) (length (now wt)) ⌝ }
+    requires { ⌜ Fits st (length (now part)) cols ⌝ }
+    ensures { λ r. ⌜ Small frame r × (r .used ≡ st .used + length (now (part .entry))) ⌝ }
+    ensures { λ r. ⌜ KeepsBlank st (now (part .entry)) cols tag (now (wb .entry)) (now (wt .entry)) r (now (wb .exit)) (now (wt .exit)) ⌝ }
+{
+    let word = st.word;
+    if word.text {
+        return push_word(frame, st, wb, wt, part, cols, tag);
+    }
+    let line = st.line;
+    let pending = st.blanks;
+    let blanks = Blanks {
+        count: pending.count + cols,
+        tag,
+    };
+    State {
+        line,
+        word,
+        blanks,
+        wrapped: st.wrapped,
+        used: st.used + part.len(),
+    }
+}
+
+// A blank in Normal: it counts once, and only if the line has columns and no blank is pending.
+pub fn collapse(frame: Frame, st: State, tag: u32) -> State
+    requires { ⌜ Small frame st × (st .used < 4096) ⌝ }
+    ensures { λ r. ⌜ Small frame r × (r .used ≤ st .used + 1) ⌝ }
+    ensures { λ r. ⌜ Collapses st tag r ⌝ }
+{
+    let line = st.line;
+    let pending = st.blanks;
+    if line.cols == 0 {
+        return st;
+    }
+    if pending.count != 0 {
+        return st;
+    }
+    let word = st.word;
+    let blanks = Blanks { count: 1, tag };
+    State {
+        line,
+        word,
+        blanks,
+        wrapped: st.wrapped,
+        used: st.used + 1,
+    }
+}

@@ -1,0 +1,141 @@
+// `add_text` and `add_element`.
+use crate::walk::Run;
+use crate::walk::Walk;
+use crate::walk::Walked;
+use crate::walk::add_char;
+use characters::utf8::Decoded;
+use characters::utf8::decode;
+use flush_word::state::Flushed;
+use flush_word::state::State;
+use flush_word::state::Word;
+use hard_wrap::line::Frame;
+use lines::buffer::push_byte;
+use lines::buffer::push_text;
+use lines::encode::MARK;
+use lines::encode::NAME;
+ghost use mathlib.Core.Path.{_≡_};
+ghost use Prim.Native.Nat.{_+_, _<_, _≤_};
+ghost use lib.ListN.{length};
+ghost use Rattle.characters.specs.If.{if_then_else_};
+ghost use Rattle.flush_word.specs.Keep.{Small, Lent};
+ghost use Rattle.add_text.specs.Walks.{RunSmall, WalkedSmall, FirstSmall, AddsFirst, Same, TextSmall, AddsText, AddsElement};
+
+// The annotation that a text begins with: the continued one while a wrap of Pre text stands.
+fn first_annotation(run: Run, wrapped: bool) -> u32
+    ensures { λ r. ⌜ r ≡ (if wrapped then run .wrap else run .main) ⌝ }
+{
+    if wrapped {
+        return run.wrap;
+    }
+    run.main
+}
+
+// What a step over one character comes to.
+pub enum Step {
+    On { w: Walk, len: usize },
+    Narrow,
+    End,
+}
+
+// The character at the front of a text, walked.
+fn add_first(
+    frame: Frame,
+    run: Run,
+    w: Walk,
+    text: &[u8],
+    lb: &mut [u8],
+    lt: &mut [u32],
+    wb: &mut [u8],
+    wt: &mut [u32],
+    out: &mut [u8],
+) -> Step
+    requires { ⌜ WalkedSmall frame w (w .st .used) × Lent frame (length (now lb)) (length (now lt)) (length (now wb)) (length (now wt)) ⌝ }
+    requires { ⌜ RunSmall run × (w .st .used + length (now text) ≤ 4096) ⌝ }
+    ensures { λ r. ⌜ FirstSmall frame (w .st .used) (length (now (text .entry))) r ⌝ }
+    ensures { λ r. ⌜ AddsFirst frame run w (now (text .entry))
+        (now (lb .entry)) (now (lt .entry)) (now (wb .entry)) (now (wt .entry)) (now (out .entry)) r
+        (now (lb .exit)) (now (lt .exit)) (now (wb .exit)) (now (wt .exit)) (now (out .exit)) ⌝ }
+    ensures { λ r. ⌜ Same r
+        (now (lb .entry)) (now (lt .entry)) (now (wb .entry)) (now (wt .entry)) (now (out .entry))
+        (now (lb .exit)) (now (lt .exit)) (now (wb .exit)) (now (wt .exit)) (now (out .exit)) ⌝ }
+{
+    let d = decode(text);
+    match d {
+        Decoded::Char { code, len } => {
+            let done = add_char(frame, run, w, code, &text[..len], lb, lt, wb, wt, out);
+            match done {
+                Walked::On(on) => Step::On { w: on, len },
+                Walked::Narrow => Step::Narrow,
+            }
+        }
+        Decoded::Bad => Step::End,
+    }
+}
+
+// `add_text`: the text of a T field, one character after the other.
+pub fn add_text(
+    frame: Frame,
+    run: Run,
+    st: State,
+    text: &[u8],
+    lb: &mut [u8],
+    lt: &mut [u32],
+    wb: &mut [u8],
+    wt: &mut [u32],
+    out: &mut [u8],
+) -> Flushed
+    requires { ⌜ Small frame st × Lent frame (length (now lb)) (length (now lt)) (length (now wb)) (length (now wt)) ⌝ }
+    requires { ⌜ RunSmall run × (st .used + length (now text) ≤ 4096) ⌝ }
+    ensures { λ r. ⌜ TextSmall frame (st .used + length (now (text .entry))) r ⌝ }
+    ensures { λ r. ⌜ AddsText frame run st (now (text .entry))
+        (now (lb .entry)) (now (lt .entry)) (now (wb .entry)) (now (wt .entry)) (now (out .entry)) r
+        (now (lb .exit)) (now (lt .exit)) (now (wb .exit)) (now (wt .exit)) (now (out .exit)) ⌝ }
+{
+    let mut cur = Walk {
+        st,
+        ann: first_annotation(run, st.wrapped),
+    };
+    let mut at: usize = 0;
+    loop {
+        let step = add_first(frame, run, cur, &text[at..], lb, lt, wb, wt, out);
+        match step {
+            Step::On { w, len } => {
+                cur = w;
+                at += len;
+            }
+            Step::Narrow => {
+                return Flushed::Narrow;
+            }
+            Step::End => {
+                let last = cur.st;
+                return Flushed::Done(last);
+            }
+        }
+    }
+}
+
+// `add_element`: a name goes to the word still open, or to the next one.
+pub fn add_element(frame: Frame, st: State, wb: &mut [u8], wt: &mut [u32], name: &[u8]) -> State
+    requires { ⌜ Small frame st × Lent frame 4608 4608 (length (now wb)) (length (now wt)) ⌝ }
+    requires { ⌜ st .used + 1 + length (now name) ≤ 4096 ⌝ }
+    ensures { λ r. ⌜ Small frame r × (r .used ≡ st .used + 1 + length (now (name .entry))) ⌝ }
+    ensures { λ r. ⌜ AddsElement st (now (name .entry)) (now (wb .entry)) (now (wt .entry)) r (now (wb .exit)) (now (wt .exit)) ⌝ }
+{
+    let line = st.line;
+    let word = st.word;
+    let blanks = st.blanks;
+    let start = push_byte(wb, wt, word.n, 0, MARK);
+    let n = push_text(wb, wt, start, name, NAME);
+    let longer = Word {
+        n,
+        cols: word.cols,
+        text: word.text,
+    };
+    State {
+        line,
+        word: longer,
+        blanks,
+        wrapped: st.wrapped,
+        used: st.used + 1 + name.len(),
+    }
+}

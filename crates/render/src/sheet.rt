@@ -1,0 +1,122 @@
+// The block's lines in the store, and the sheet's head.
+use crate::Rendered;
+use crate::body::add_fields;
+use fields::store::clear;
+use fields::store::put_head;
+use fields::store::put_two;
+use flush_word::state::Flushed;
+use flush_word::state::State;
+use flush_word::state::no_blanks;
+use flush_word::state::no_word;
+use flush_word::word::flush_word;
+use hard_wrap::flush::flush_line;
+use hard_wrap::line::Frame;
+use hard_wrap::line::Open;
+ghost use mathlib.Core.Path.{_≡_};
+ghost use Prim.Native.Nat.{_^_, _<_, _≤_};
+ghost use lib.ListN.{length};
+ghost use Rattle.fields.specs.Field.{raws};
+ghost use Rattle.fields.specs.Job.{bodyUnits};
+ghost use Rattle.flush_word.specs.Keep.{Small, Lent};
+ghost use Rattle.render.specs.Render.{newState, FrameSmall, LinesSmall, FlushesAll, IntoLines, Finishes};
+
+// The lines are closed and in the store, or the block was too narrow.
+pub enum Lines {
+    Closed(Open),
+    Narrow,
+}
+
+// `new`: the store's first five bytes are kept for the head.
+fn new() -> State
+    ensures { λ r. ⌜ r ≡ newState ⌝ }
+{
+    let line = Open {
+        n: 0,
+        cols: 0,
+        place: 5,
+        lines: 0,
+    };
+    let word = no_word();
+    let blanks = no_blanks();
+    State {
+        line,
+        word,
+        blanks,
+        wrapped: false,
+        used: 0,
+    }
+}
+
+// `flush`: the last word, and a line with text.
+fn flush(
+    frame: Frame,
+    st: State,
+    lb: &mut [u8],
+    lt: &mut [u32],
+    wb: &[u8],
+    wt: &[u32],
+    out: &mut [u8],
+) -> Lines
+    requires { ⌜ Small frame st × Lent frame (length (now lb)) (length (now lt)) (length (now wb)) (length (now wt)) ⌝ }
+    ensures { λ r. ⌜ LinesSmall r ⌝ }
+    ensures { λ r. ⌜ FlushesAll frame st (now (lb .entry)) (now (lt .entry)) (now (wb .entry)) (now (wt .entry)) (now (out .entry)) r (now (out .exit)) ⌝ }
+{
+    let f = flush_word(frame, st, lb, lt, wb, wt, out);
+    match f {
+        Flushed::Done(last) => {
+            let line = flush_line(frame, last.line, lb, lt, out);
+            Lines::Closed(line)
+        }
+        Flushed::Narrow => Lines::Narrow,
+    }
+}
+
+// `into_lines`, over all fields of the job's body.
+fn into_lines(
+    frame: Frame,
+    body: &[u8],
+    lb: &mut [u8],
+    lt: &mut [u32],
+    wb: &mut [u8],
+    wt: &mut [u32],
+    out: &mut [u8],
+) -> Lines
+    requires { ⌜ Lent frame (length (now lb)) (length (now lt)) (length (now wb)) (length (now wt)) ⌝ }
+    requires { ⌜ bodyUnits (raws (now body)) ≤ 4096 ⌝ }
+    ensures { λ r. ⌜ LinesSmall r ⌝ }
+    ensures { λ r. ⌜ IntoLines frame (now (body .entry)) (now (out .entry)) r (now (out .exit)) ⌝ }
+{
+    let f = add_fields(frame, new(), body, lb, lt, wb, wt, out);
+    match f {
+        Flushed::Done(st) => flush(frame, st, lb, lt, wb, wt, out),
+        Flushed::Narrow => Lines::Narrow,
+    }
+}
+
+// The buffers of the line and of the word.
+pub fn wrap_lines(frame: Frame, body: &[u8], out: &mut [u8]) -> Lines
+    requires { ⌜ FrameSmall frame × (bodyUnits (raws (now body)) ≤ 4096) ⌝ }
+    ensures { λ r. ⌜ LinesSmall r ⌝ }
+    ensures { λ r. ⌜ IntoLines frame (now (body .entry)) (now (out .entry)) r (now (out .exit)) ⌝ }
+{
+    let mut lb = [0u8; 4608];
+    let mut lt = [0u32; 4608];
+    let mut wb = [0u8; 4096];
+    let mut wt = [0u32; 4096];
+    into_lines(frame, body, &mut lb, &mut lt, &mut wb, &mut wt, out)
+}
+
+// The lines stand in the store from 5 on; the head comes last, or the store is too short.
+pub fn finish(line: Open, store: &mut [u8]) -> Rendered
+    requires { ⌜ line .place < 2 ^ 61 ⌝ }
+    ensures { λ r. ⌜ Finishes line (now (store .entry)) r (now (store .exit)) ⌝ }
+{
+    let place = line.place;
+    if store.len() < place {
+        clear(store);
+        return Rendered::StoreShort(place);
+    }
+    let count = put_head(store, 0, b'H', 2);
+    put_two(store, count, line.lines % 65536);
+    Rendered::Sheet(place)
+}
