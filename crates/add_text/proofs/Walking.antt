@@ -40,6 +40,7 @@ use Rattle.add_text.specs.declared.walk.Walked.the-variants.{On}
 use Rattle.add_text.specs.declared.walk.Walked.the-variants as walked
 use Rattle.add_text.specs.declared.text.Step.{Step}
 use Rattle.add_text.specs.declared.text.Step.the-variants as stepped
+use Rattle.hard_wrap.proofs.Walks.{part-len}
 
 -- ---- numbers
 
@@ -366,16 +367,12 @@ walking-starts frame run text lb lt wb wt out start h r e =
           };
     }
 
--- The length of what is left.
-pub left-length : (text : List ℕ) (at : ℕ) → length (take (length text - at) (drop at text)) ≡ length text - at
-left-length text at = ap length (rest text at) ∙ length-drop at text
-
 -- A step forward stays inside the text.
 pub moved : (frame : Frame) (text : List ℕ) (at used : ℕ) (r : Step) (w : Walk) (n : ℕ) → at ≤ length text → r ≡ stepped.On w n
     → FirstSmall frame used (length (take (length text - at) (drop at text))) r → (0 < n) × (at + n ≤ length text) × WalkedSmall frame w (used + n)
 moved frame text at used r w n h e x =
     let y : (0 < n) × (n ≤ length (take (length text - at) (drop at text))) × WalkedSmall frame w (used + n) = rw e at x in
-    (y .0, omega (arith, y .1, left-length text at), y .2)
+    (y .0, omega (arith, y .1, part-len text at), y .2)
 
 module _ (frame : Frame) (run : Run) (text lb₀ lt₀ wb₀ wt₀ out₀ : List ℕ) (start : Walk) (lb lt wb wt out : List ℕ) (cur : Walk) (at : ℕ)
     (inv : Walking frame run text lb₀ lt₀ wb₀ wt₀ out₀ start lb lt wb wt out cur at) (r : Step) (lb′ lt′ wb′ wt′ out′ : List ℕ)

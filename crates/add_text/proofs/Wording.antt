@@ -18,7 +18,7 @@ use Rattle.characters.proofs.Tables.{dropped-is-white, white-columns, control-n
 use Rattle.block.specs.Tag.{Tag}
 use Rattle.block.specs.Flat.{char, name, Line, columns, hasText, pushChar, Block, withWord, withBlanks, keepBlank, collapse, addElement}
 use Rattle.block.specs.Neat.{Neat}
-use Rattle.block.proofs.Neats.{neat-blanks, neat-keep, neat-element}
+use Rattle.block.proofs.Neats.{neat-blanks, neat-keep, neat-element, text-name}
 use Rattle.block.proofs.Width.{columns-append, columns-push}
 use Rattle.lines.specs.Items.{Item, item, markTag, nameTag, items}
 use Rattle.lines.specs.Bridge.{num, tagged, enc, Valid}
@@ -30,13 +30,9 @@ use Rattle.flush_word.specs.Keep.{Keeps, Small}
 use Rattle.flush_word.specs.declared.state.State.{State}
 use Rattle.add_text.specs.Chars.{Fits, PushesWord, KeepsBlank, Collapses}
 use Rattle.add_text.specs.Walks.{AddsElement}
+use Rattle.block.proofs.Same.{cols-of}
 
 -- ---- columns
-
--- a character with a column count has that many columns
-cols-of : (c n : ℕ) → widthOf c ≡ some n → cols c ≡ n
-unfolding cols
-cols-of c n e = ap orZero e
 
 ascii-narrow : (c : ℕ) → c < 0x80 → cols c ≤ 1
 unfolding columnsOf widthOf cols
@@ -82,12 +78,6 @@ enc-name l n =
 columns-name : (l : Line) (n : List ℕ) → columns (l ++ (name n ∷ [])) ≡ columns l
 unfolding columns
 columns-name l n = let e : columns (l ++ (name n ∷ [])) ≡ columns l + 0 = columns-append l (name n ∷ []) in omega arith
-
-text-name : (l : Line) (n : List ℕ) → hasText (l ++ (name n ∷ [])) ≡ hasText l
-unfolding hasText
-text-name [] n = refl
-text-name (char c t ∷ l) n = refl
-text-name (name m ∷ l) n = text-name l n
 
 -- ---- the state with another word, and with other blanks
 

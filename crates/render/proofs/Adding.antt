@@ -15,7 +15,7 @@ use Rattle.fields.specs.Field.{whole, broken, raws}
 use Rattle.fields.specs.Text.{holds, allowedIn, readableText}
 use Rattle.fields.specs.Job.{JobField, Mode, normal, pre, preWrap, text, fragment, wrong, readText, readField, readable, allReadable, units, fieldUnits, bodyUnits}
 use Rattle.fields.proofs.Fields.{FieldIs}
-use Rattle.fields.proofs.Jobs.{text-units}
+use Rattle.fields.proofs.Jobs.{text-units, name-read, other-read, text-field, short-read, mode-read}
 use Rattle.fields.proofs.Texts.{rest}
 use Rattle.block.specs.Flat.{Block, addElement, addField, addFields}
 use Rattle.lines.specs.Bridge.{modeNo}
@@ -28,39 +28,13 @@ use Rattle.flush_word.specs.declared.state.Flushed.the-variants.{Done, Narrow}
 use Rattle.add_text.specs.Walks.{RunSmall, RunIs, TextSmall, AddsText, AddsElement}
 use Rattle.add_text.specs.declared.walk.Run.{Run}
 use Rattle.render.specs.Render.{runOf, AddsField, AddsFields}
+use Rattle.add_text.proofs.Walking.{lent-word}
 
 -- ---- what a field reads as
-
-name-read : (l : ℕ) (s : List ℕ) → l ≡ 0x46 → readField (whole l s) ≡ fragment s
-unfolding readField
-name-read l s e = rw e
-
-text-field : (l : ℕ) (s : List ℕ) → l ≡ 0x54 → readField (whole l s) ≡ readText s
-unfolding readField
-text-field l s e = rw e
-
--- Neither letter.
-pub other-wrong : (l : ℕ) (s : List ℕ) → (l ≡ 0x46 → ⊥) → (l ≡ 0x54 → ⊥) → readField (whole l s) ≡ wrong
-unfolding readField
-other-wrong l s h k = rw (ne-eqb l 0x54 k, ne-eqb l 0x46 h)
-
-short-read : (s : List ℕ) → length s < 3 → readText s ≡ wrong
-unfolding readText
-short-read [] h = refl
-short-read (m ∷ []) h = refl
-short-read (m ∷ a ∷ []) h = refl
-short-read (m ∷ a ∷ c ∷ t) h = absurd (omega arith)
 
 -- A T field without its three bytes.
 pub short-wrong : (l : ℕ) (s : List ℕ) → l ≡ 0x54 → length s < 3 → readField (whole l s) ≡ wrong
 short-wrong l s e h = text-field l s e ∙ short-read s h
-
-mode-read : (s : List ℕ) → 2 < getD s 0 0 → readText s ≡ wrong
-unfolding readText
-mode-read [] h = refl
-mode-read (m ∷ []) h = refl
-mode-read (m ∷ a ∷ []) h = refl
-mode-read (m ∷ a ∷ c ∷ t) h = rw (ne-eqb m 0 (λ e. omega arith), ne-eqb m 1 (λ e. omega arith), ne-eqb m 2 (λ e. omega arith))
 
 -- A T field of no mode.
 pub mode-wrong : (l : ℕ) (s : List ℕ) → l ≡ 0x54 → 2 < getD s 0 0 → readField (whole l s) ≡ wrong
@@ -98,10 +72,6 @@ chars-of t h = go (chars t) refl h
     go (some cs) e h = record { cs = cs; is = e }
 
 -- ---- numbers
-
--- The word's buffers are all that a name asks for.
-pub lent-word : {frame : Frame} {nlb nlt nwb nwt : ℕ} → Lent frame nlb nlt nwb nwt → Lent frame 4608 4608 nwb nwt
-lent-word l = omega (arith, l)
 
 -- The bytes of a T field are in range.
 pub run-small : (run : Run) (s : List ℕ) → run ≡ runOf (getD s 0 0) (getD s 1 0) (getD s 2 0) → getD s 0 0 ≤ 2 → getD s 1 0 < 256 → getD s 2 0 < 256 → RunSmall run

@@ -4,7 +4,8 @@ use Prim.Native.Nat.{_-_}
 use native.Mathlib.Omega.{arith}
 use borrow.Author.Needs.{needs}
 use lib.ListN.{length}
-use Rattle.add_text.proofs.Walking.{lent-same, Walking, walking-starts, left-length, moved, walking, walking-narrow, walking-ends}
+use Rattle.hard_wrap.proofs.Walks.{part-len}
+use Rattle.add_text.proofs.Walking.{lent-same, Walking, walking-starts, moved, walking, walking-narrow, walking-ends}
 use Rattle.add_text.proofs.text.add_text.Statement.{statement}
 use Rattle.add_text.proofs.text.add_text.Tie as tie
 
@@ -38,7 +39,7 @@ add-first-requires c κs =
     let l = c .before .before .before .before .before .before .loop in
     let i = l .inv in (
       (record { small = i .small .small; ann = i .small .ann; used = omega arith }, lent-same (start .pre .0 .1) (i .lb-same) (i .lt-same) (i .wb-same) (i .wt-same)),
-      (start .pre .1 .0, omega (arith, left-length (start .args .text .now) (l .at), i .inside, i .small .used, start .pre .1 .1)),
+      (start .pre .1 .0, omega (arith, part-len (start .args .text .now) (l .at), i .inside, i .small .used, start .pre .1 .1)),
     )
 
 enum-known-step : tie.Need-enum-known-step Inv-loop μ-loop

@@ -2,8 +2,9 @@
 -- Assumes nothing.
 use native.Mathlib.Omega.{arith}
 use borrow.Author.Needs.{needs}
-use Rattle.fields.proofs.Jobs.{name-units}
-use Rattle.render.proofs.Adding.{other-wrong, short-wrong, mode-wrong, lent-word, run-small, text-bytes, adds-name, adds-nothing, adds-text}
+use Rattle.add_text.proofs.Walking.{lent-word}
+use Rattle.fields.proofs.Jobs.{name-units, other-read}
+use Rattle.render.proofs.Adding.{short-wrong, mode-wrong, run-small, text-bytes, adds-name, adds-nothing, adds-text}
 use Rattle.render.proofs.body.add_field.Statement.{statement}
 use Rattle.render.proofs.body.add_field.Tie as tie
 
@@ -32,7 +33,7 @@ returns-2 : tie.Need-returns-2
 returns-2 c =
     let a = c .before .before .before .before .before .before .before .before .args in (
       (c .before .before .before .before .before .before .before .before .pre .0 .0, omega arith),
-      adds-nothing (a .frame) (a .st) (a .letter) _ _ _ _ _ _ (other-wrong _ _ (c .before .if1 .left) (c .if2 .taken)),
+      adds-nothing (a .frame) (a .st) (a .letter) _ _ _ _ _ _ (other-read _ _ (c .before .if1 .left) (c .if2 .taken)),
     )
 
 returns-3 : tie.Need-returns-3
