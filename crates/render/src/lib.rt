@@ -1,8 +1,8 @@
 // From a job to its sheet (document 01): refusals 1 to 4 over the whole job, the wrapped block over its
 // fields, refusal 5, and the sheet in the lent store, or refusal 8. No heap: the line and the word stand
 // in 43,520 bytes of stack, and the closed lines go straight to the store, the head put in last.
-pub mod body;
-pub mod sheet;
+mod body;
+mod sheet;
 
 use crate::sheet::Lines;
 use crate::sheet::finish;
