@@ -33,9 +33,11 @@ table =
     ∷ row 0xFF61 0xFF9D (Cols 1)
     ∷ []
 
+-- what the list says of a code point
 unfoldable pub columnsOf : ℕ → Columns
 columnsOf c = lookup OffList table c
 
+-- a column count, where there is one
 abbrev pub widthIn : Columns → Option ℕ
 widthIn Control = none
 widthIn (Cols n) = some n
@@ -45,6 +47,7 @@ widthIn OffList = none
 unfoldable pub widthOf : ℕ → Option ℕ
 widthOf c = widthIn (columnsOf c)
 
+-- `unwrap_or(0)`
 abbrev pub orZero : Option ℕ → ℕ
 orZero none = 0
 orZero (some n) = n
@@ -53,14 +56,17 @@ orZero (some n) = n
 unfoldable pub cols : ℕ → ℕ
 cols c = orZero (widthOf c)
 
+-- a control
 abbrev pub controlIn : Columns → Bool
 controlIn Control = true
 controlIn (Cols n) = false
 controlIn OffList = false
 
+-- controls 0001 to 001F and 007F to 009F
 unfoldable pub isControl : ℕ → Bool
 isControl c = controlIn (columnsOf c)
 
+-- a control or a character with columns
 abbrev pub listedIn : Columns → Bool
 listedIn Control = true
 listedIn (Cols n) = true

@@ -7,6 +7,7 @@ use lib.ListN.{length, drop, replicate}
 use Rattle.characters.specs.If.{if_then_else_}
 use Rattle.fields.specs.Sheet.{RenderLine, sheetBytes}
 
+-- document 01: a good call returns 0 and the sheet's length, a refusal its number
 pub record Answer : Type 0 where
   pub number : ℕ
   pub length : ℕ

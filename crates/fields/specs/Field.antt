@@ -61,10 +61,12 @@ both none rest = none
 both (some a) none = none
 both (some a) (some l) = some (a ∷ l)
 
+-- each field read
 unfoldable pub readAll : {A : Type 0} → (Raw → Option A) → List Raw → Option (List A)
 readAll f [] = some []
 readAll f (r ∷ rs) = both (f r) (readAll f rs)
 
+-- a test of each member
 unfoldable pub all : {A : Type 0} → (A → Bool) → List A → Bool
 all p [] = true
 all p (a ∷ l) = p a && all p l
