@@ -16,7 +16,8 @@ ghost use Rattle.flush_word.specs.Keep.{Small, Lent};
 ghost use Rattle.add_text.specs.Walks.{TextSmall};
 ghost use Rattle.render.specs.Render.{runOf, AddsField, AddsFields};
 
-fn tag(x: u8) -> u32
+// A byte as a tag.
+pub fn tag(x: u8) -> u32
     ensures { λ r. ⌜ r ≡ x ⌝ }
 {
     x as u32

@@ -4,6 +4,7 @@
 mod body;
 mod sheet;
 
+use crate::body::tag;
 use crate::sheet::Lines;
 use crate::sheet::finish;
 use crate::sheet::wrap_lines;
@@ -23,13 +24,6 @@ pub enum Rendered {
     Sheet(usize),
     Refused(u8),
     StoreShort(usize),
-}
-
-// A byte as a tag.
-fn tag(x: u8) -> u32
-    ensures { λ r. ⌜ r ≡ x ⌝ }
-{
-    x as u32
 }
 
 // What never changes in the block.
