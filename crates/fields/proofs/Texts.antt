@@ -14,6 +14,7 @@ use Rattle.characters.specs.declared.columns.Columns.the-variants.{Control, Col
 use Rattle.characters.specs.Utf8.{decodeOf, chars}
 use Rattle.characters.specs.declared.utf8.Decoded.{Decoded}
 use Rattle.characters.specs.declared.utf8.Decoded.the-variants.{Char, Bad}
+use Rattle.characters.proofs.Tests.{or-true}
 use Rattle.characters.proofs.RoundTrip.{chars-nil, chars-step, chars-bad}
 use Rattle.fields.specs.Field.{all}
 use Rattle.fields.specs.Text.{allowedIn, holds, readableText, TextStep}
@@ -32,10 +33,6 @@ control-allowed k c e = rw e (or-false k)
 pub cols-allowed : (k : Bool) (c n : ℕ) → columnsOf c ≡ Cols n → allowedIn k c ≡ true
 unfolding allowedIn onList isControl
 cols-allowed k c n e = rw e (or-true k)
-  where
-    or-true : (k : Bool) → (k || true) ≡ true
-    or-true true = refl
-    or-true false = refl
 
 pub off-list : (k : Bool) (c : ℕ) → columnsOf c ≡ OffList → allowedIn k c ≡ false
 unfolding allowedIn onList
