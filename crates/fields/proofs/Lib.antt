@@ -5,3 +5,4 @@ pub mod Sets
 pub mod Jobs
 pub mod Sheets
 pub mod Back
+pub mod Finishing

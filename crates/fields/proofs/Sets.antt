@@ -1,4 +1,5 @@
--- The laws of `sets` and of `Wrote`: writes one after the other, a write past the store's end, a loop that writes, and a whole answer that fits.
+-- The laws of `sets` and of `Wrote`: writes one after the other, a write in front of another, a write past the store's end, a loop that
+-- writes, and a whole answer that fits.
 -- Assumes nothing.
 use mathlib.Core.Path.{_≡_, refl, sym, ap, _∙_}
 use mathlib.Core.List.{List, [], _∷_, _++_, append-nil}
@@ -7,7 +8,7 @@ use native.Mathlib.Nat.{add-zero, zero-add}
 use native.Mathlib.Numerals.{add-one}
 use native.Mathlib.Omega.{arith}
 use lib.ListN.{length, take, drop, getD, set, replicate, length-append, length-set, length-replicate, getD-replicate, drop-of-length-le}
-use lib.Seq.{sets, set-out, sets-eq, take-suc, take-nil, length-take-le}
+use lib.Seq.{sets, set-out, set-comm, sets-eq, take-suc, take-nil, length-take-le}
 use Rattle.fields.specs.Store.{Wrote}
 
 -- Two lists one after the other are stored one after the other.
@@ -16,6 +17,21 @@ sets-append l i [] ys = rw add-zero
 sets-append l i (x ∷ xs) ys =
     let e : suc i + length xs ≡ i + suc (length xs) = omega arith in
     rw (← e) (sets-append (set l i x) (suc i) xs ys)
+
+-- a store in front of a run of stores, or before it
+set-sets : (d : List ℕ) (i j a : ℕ) (xs : List ℕ) → i < j → set (sets d j xs) i a ≡ sets (set d i a) j xs
+set-sets d i j a [] h = refl
+set-sets d i j a (x ∷ xs) h =
+    set-sets (set d j x) i (suc j) a xs (omega arith)
+    ∙ ap (λ (l : List ℕ). sets l (suc j) xs) (set-comm d j i x a (omega arith))
+
+-- Two runs of stores, the second of them in front of the first.
+pub sets-before : (d : List ℕ) (at : ℕ) (xs ys : List ℕ) → sets (sets d (at + length xs) ys) at xs ≡ sets d at (xs ++ ys)
+sets-before d at [] ys = rw add-zero
+sets-before d at (x ∷ xs) ys =
+    let e : at + suc (length xs) ≡ suc at + length xs = omega arith in
+    ap (λ (l : List ℕ). sets l (suc at) xs) (set-sets d at (at + suc (length xs)) x ys (omega arith))
+    ∙ rw e (sets-before (set d at x) (suc at) xs ys)
 
 -- At a place at or past the end nothing changes.
 pub sets-past : (l : List ℕ) (i : ℕ) (xs : List ℕ) → length l ≤ i → sets l i xs ≡ l
@@ -57,6 +73,17 @@ wrote-then {a} {xs = xs} {ys} {at} v w = record {
   place = rw length-append (omega arith);
   store = w .store ∙ rw (v .store, v .place) (sym (sets-append a at xs ys));
 }
+
+-- A write, and then one that ends where it began, are one write.
+pub wrote-before : {a b c xs ys : List ℕ} {at n m : ℕ} → Wrote a (at + length xs) ys b n → Wrote b at xs c m → Wrote a at (xs ++ ys) c n
+wrote-before {a} {xs = xs} {ys} {at} v w = record {
+  place = rw length-append (omega arith);
+  store = w .store ∙ rw (v .store) (sets-before a at xs ys);
+}
+
+-- Nothing is written.
+pub wrote-none : (a : List ℕ) (at : ℕ) → Wrote a at [] a at
+wrote-none a at = record { place = omega arith; store = refl }
 
 -- A whole answer that fits: the bytes, then what stood there.
 pub wrote-fits : {a bs b : List ℕ} {n : ℕ} → Wrote a 0 bs b n → length bs ≤ length a → b ≡ bs ++ drop (length bs) a

@@ -4,7 +4,7 @@
 use mathlib.Core.Bool.{Bool, true, _&&_}
 use mathlib.Core.Option.{Option, none, some}
 use mathlib.Core.List.{List, [], _∷_, _++_}
-use Prim.Native.Nat.{ℕ, zero, suc, _+_, _*_, _/_, _%_}
+use Prim.Native.Nat.{ℕ, zero, suc, _+_, _*_, _/_, _%_, _<_}
 use lib.Dec.{leb}
 use lib.ListN.{length, take, drop}
 use Rattle.characters.specs.If.{if_then_else_}
@@ -52,6 +52,12 @@ fieldAt at [] = End
 fieldAt at (l ∷ []) = Broken
 fieldAt at (l ∷ h ∷ []) = Broken
 fieldAt at (l ∷ h ∷ o ∷ rest) = if leb (h * 256 + o) (length rest) then At l (at + 3) (at + 3 + (h * 256 + o)) else Broken
+
+-- a content has at most 65,535 bytes
+abbrev pub Short : Field → Type 0
+Short (At l start next) = next < start + 65536
+Short Broken = Unit {0}
+Short End = Unit {0}
 
 -- ---- lists of readings
 

@@ -8,10 +8,10 @@
 //   oracle vectors random 3 3000 300
 //   oracle vectors random 1800 500 20000  some with 4,096 and 4,097 units
 //   oracle vectors damaged 4 1600 300
+use fields::answer::Rendered;
 use fields::field::wide;
 use libc::STDIN_FILENO;
 use libc::STDOUT_FILENO;
-use render::Rendered;
 use render::render;
 ghost use Prim.Native.Nat.{_<_};
 

@@ -1,5 +1,4 @@
 pub mod Buffers
-pub mod Heads
 pub mod Pieces
 pub mod Encoded
 pub mod HardWrap

@@ -13,11 +13,10 @@ use lib.Dec.{eqb}
 use Rattle.characters.specs.If.{if_then_else_}
 use Rattle.fields.specs.Field.{head, field}
 use Rattle.fields.specs.Store.{Wrote}
-use Rattle.fields.proofs.Sets.{wrote-then}
+use Rattle.fields.proofs.Sets.{wrote-then, wrote-before, wrote-none}
 use Rattle.lines.specs.Items.{Item, item, zip, markTag, nameTag}
 use Rattle.lines.specs.Encode.{joins, onFirst, startsWith, pieces, fieldOf, pieceField, pieceFields, content, lineField, runT}
 use Rattle.lines.proofs.Buffers.{zip-bytes, zip-nil}
-use Rattle.lines.proofs.Heads.{wrote-before, wrote-none}
 
 -- ---- runs
 

@@ -5,27 +5,26 @@ use mathlib.Core.Option.{Option, none, some}
 use mathlib.Core.List.{List, [], _∷_, map}
 use Prim.Native.Nat.{ℕ, zero, suc, _+_, _-_, _*_, _≤_, _<_}
 use native.Mathlib.Omega.{arith}
-use lib.ListN.{length, take, drop, getD, replicate}
+use lib.ListN.{length, take, drop, getD, length-map}
 use Rattle.fields.specs.Field.{raws}
 use Rattle.fields.specs.First.{refusalOf}
 use Rattle.fields.specs.Job.{JobField, readField, headOf, restOf, bodyUnits}
-use Rattle.fields.specs.Answer.{refused, give}
+use Rattle.fields.specs.Answer.{rendered, refused, give, Finishes}
 use Rattle.fields.specs.Refusals.{setupOf, fieldsOf, blockRefusal, jobRefusal}
 use Rattle.fields.specs.declared.job.Setup.{Setup}
+use Rattle.fields.specs.declared.answer.Rendered.{Rendered}
 use Rattle.fields.proofs.Fields.{raws-cons}
 use Rattle.fields.proofs.Jobs.{head-is}
 use Rattle.fields.proofs.Texts.{rest}
 use Rattle.block.specs.Answer.{renderAnswer}
 use Rattle.block.specs.Result.{Result}
-use Rattle.block.specs.Flat.{Line, wrapped}
+use Rattle.block.specs.Flat.{Line, wrapped, sheetLine}
 use Rattle.block.proofs.Bounds.{few-lines}
 use Rattle.block.proofs.Equal.{answer-same}
 use Rattle.block.proofs.FlatAnswer.{flatJudged, flatVerdictOf, flatVerdict, flatAnswer, Passes, passes}
 use Rattle.hard_wrap.specs.declared.line.Frame.{Frame}
 use Rattle.hard_wrap.specs.declared.line.Open.{Open}
-use Rattle.render.specs.Render.{rendered, frameOf, FrameSmall, IntoLines, Finishes}
-use Rattle.render.specs.declared.Rendered.{Rendered}
-use Rattle.render.specs.declared.Rendered.the-variants.{Refused}
+use Rattle.render.specs.Render.{frameOf, FrameSmall, IntoLines}
 use Rattle.render.specs.declared.sheet.Lines.the-variants.{Closed, Narrow}
 
 -- ---- a job that is refused
@@ -40,12 +39,11 @@ unfolding flatVerdictOf
 verdict-refused none fs n e h = ap refused (sym e)
 verdict-refused (some s) fs n e h = rw (← e) (judged-refused n (wrapped s fs) h)
 
--- A refusal 1 to 4: its number, and the store zeroed.
-pub answers-refused : (job store store′ : List ℕ) (n : ℕ) → n ≡ jobRefusal job → (n ≡ 0 → ⊥) → store′ ≡ replicate (length store) 0
-    → rendered (Refused n) store′ ≡ renderAnswer job store
-unfolding flatAnswer flatVerdict jobRefusal give
-answers-refused job store store′ n e h z =
-    rw (answer-same job store, verdict-refused (setupOf job) (fieldsOf job) n e h, z)
+-- A refusal 1 to 4 is the answer.
+pub answers-refused : (job store : List ℕ) (n : ℕ) → n ≡ jobRefusal job → (n ≡ 0 → ⊥) → give (refused n) store ≡ renderAnswer job store
+unfolding flatAnswer flatVerdict jobRefusal
+answers-refused job store n e h =
+    rw (answer-same job store, verdict-refused (setupOf job) (fieldsOf job) n e h)
 
 -- ---- a job that is not refused
 
@@ -94,17 +92,17 @@ module _ (job : List ℕ) (s : Setup) (g : Good job s) where
 
   -- The lines are in the store, and the head goes in front, or the store is too short.
   pub answers-sheet : (frame : Frame) (o : Open) (r : Rendered) (store mid store′ : List ℕ) → frame ≡ frameOf s
-      → IntoLines frame (bodyOf job) store (Closed o) mid → Finishes o mid r store′ → rendered r store′ ≡ renderAnswer job store
+      → IntoLines frame (bodyOf job) store (Closed o) mid → Finishes (o .place) (o .lines) mid r store′ → rendered r store′ ≡ renderAnswer job store
   unfolding flatJudged give
   answers-sheet frame o r store mid store′ e into finish =
       let x = rw e at into (g .passed .read) in
       let few : length (x .ls) ≤ 4096 = omega (arith, rw (x .is) at (few-lines s (map readField (raws (bodyOf job)))), g .passed .light) in
-      rw (answer-lines store, x .is) (finish store (x .ls) (x .stands) (omega arith))
+      rw (answer-lines store, x .is) (finish store (map sheetLine (x .ls)) (x .stands) (rw length-map (omega arith)))
 
-  -- A word is too wide for the block: refusal 5, and the store zeroed.
-  pub answers-narrow : (frame : Frame) (store store′ : List ℕ) (n : ℕ) → frame ≡ frameOf s → IntoLines frame (bodyOf job) store Narrow store
-      → store′ ≡ replicate n 0 → n ≡ length store → rendered (Refused 5) store′ ≡ renderAnswer job store
+  -- A word is too wide for the block: refusal 5.
+  pub answers-narrow : (frame : Frame) (store mid : List ℕ) → frame ≡ frameOf s → IntoLines frame (bodyOf job) store Narrow mid
+      → length mid ≡ length store → give (refused 5) mid ≡ renderAnswer job store
   unfolding flatJudged give
-  answers-narrow frame store store′ n e into z same =
+  answers-narrow frame store mid e into same =
       let x = rw e at into (g .passed .read) in
-      rw (answer-lines store, x, z, same)
+      rw (answer-lines store, x, same)

@@ -1,15 +1,12 @@
--- The call from a job to its sheet: what its answer says in document 01's terms, and the steps below it.
+-- The steps of the call from a job to its sheet: a field, the fields, and the block's lines in the store.
 -- Assumes nothing: these are definitions.
 use mathlib.Core.Path.{_≡_}
 use mathlib.Core.Bool.{false, true}
 use mathlib.Core.List.{List, map}
-use Prim.Native.Nat.{ℕ, _+_, _^_, _<_}
-use lib.ListN.{length}
-use lib.Seq.{sets}
+use Prim.Native.Nat.{ℕ, _^_, _<_}
 use Rattle.fields.specs.Field.{whole, raws}
 use Rattle.fields.specs.Job.{readField, readable, allReadable}
-use Rattle.fields.specs.Sheet.{linesBytes, sheetBytes}
-use Rattle.fields.specs.Answer.{Answer, inStore}
+use Rattle.fields.specs.Answer.{Stands}
 use Rattle.fields.specs.declared.job.Setup.{Setup}
 use Rattle.block.specs.Result.{Result, good, tooNarrow}
 use Rattle.block.specs.Flat.{Line, Block, intoLines, addField, addFields, wrapped, sheetLine}
@@ -20,17 +17,8 @@ use Rattle.flush_word.specs.Keep.{noWord, noBlanks, Keeps, ResultIs}
 use Rattle.flush_word.specs.declared.state.State.{State}
 use Rattle.flush_word.specs.declared.state.Flushed.{Flushed}
 use Rattle.add_text.specs.declared.walk.Run.{Run}
-use Rattle.render.specs.declared.Rendered.{Rendered}
-use Rattle.render.specs.declared.Rendered.the-variants.{Sheet, Refused, StoreShort}
 use Rattle.render.specs.declared.sheet.Lines.{Lines}
 use Rattle.render.specs.declared.sheet.Lines.the-variants.{Closed, Narrow}
-
--- number, length and store bytes of an answer: a good call is 0 with the sheet's length, a refusal its number with length 0, and
--- refusal 8 has the length needed
-abbrev pub rendered : Rendered → List ℕ → Answer
-rendered (Sheet n) store = record { number = 0; length = n; store = store }
-rendered (Refused k) store = record { number = k; length = 0; store = store }
-rendered (StoreShort n) store = record { number = 8; length = n; store = store }
 
 -- what never changes in the block, from the W field
 abbrev pub frameOf : Setup → Frame
@@ -68,34 +56,22 @@ abbrev pub LinesSmall : Lines → Type 0
 LinesSmall (Closed o) = o .place < 2 ^ 61
 LinesSmall Narrow = Unit {0}
 
--- the closed lines stand in the store d₀ from the place base on
-pub record Stands (ls : List Line) (d₀ : List ℕ) (base : ℕ) (o : Open) (out : List ℕ) : Type 0 where
-  pub store : out ≡ sets d₀ base (linesBytes (map sheetLine ls))
-  pub place : o .place ≡ base + length (linesBytes (map sheetLine ls))
-  pub lines : o .lines ≡ length ls
-
 -- what a flat result is in the store
-pub record Closed-is (r : Result (List Line)) (d₀ : List ℕ) (base : ℕ) (o : Open) (out : List ℕ) : Type 0 where
+pub record Closed-is (r : Result (List Line)) (d₀ : List ℕ) (o : Open) (out : List ℕ) : Type 0 where
   pub ls : List Line
   pub is : r ≡ good ls
-  pub stands : Stands ls d₀ base o out
+  pub stands : Stands (map sheetLine ls) d₀ (o .place) (o .lines) out
 
-abbrev pub LinesAre : Result (List Line) → List ℕ → ℕ → Lines → List ℕ → Type 0
-LinesAre r d₀ base (Closed o) out = Closed-is r d₀ base o out
-LinesAre r d₀ base Narrow out = r ≡ tooNarrow
+abbrev pub LinesAre : Result (List Line) → List ℕ → Lines → List ℕ → Type 0
+LinesAre r d₀ (Closed o) out = Closed-is r d₀ o out
+LinesAre r d₀ Narrow out = r ≡ tooNarrow
 
--- `into_lines` of a block
+-- `into_lines` of a block whose lines stand from 5 on
 abbrev pub FlushesAll : Frame → State → List ℕ → List ℕ → List ℕ → List ℕ → List ℕ → Lines → List ℕ → Type 0
 FlushesAll frame st lb lt wb wt out r out′ =
-    (d₀ : List ℕ) (base : ℕ) (b : Block) → Keeps d₀ base b st lb lt wb wt out → LinesAre (intoLines (setup frame) b) d₀ base r out′
+    (d₀ : List ℕ) (b : Block) → Keeps d₀ 5 b st lb lt wb wt out → LinesAre (intoLines (setup frame) b) d₀ r out′
 
 -- the lines of a job's body, in the store from 5 on
 abbrev pub IntoLines : Frame → List ℕ → List ℕ → Lines → List ℕ → Type 0
 IntoLines frame body out r out′ =
-    allReadable (map readField (raws body)) ≡ true → LinesAre (wrapped (setup frame) (map readField (raws body))) out 5 r out′
-
--- the head in front of the lines, or refusal 8
-abbrev pub Finishes : Open → List ℕ → Rendered → List ℕ → Type 0
-Finishes o store r store′ =
-    (d₀ : List ℕ) (ls : List Line) → Stands ls d₀ 5 o store → length ls < 65536
-    → rendered r store′ ≡ inStore (sheetBytes (map sheetLine ls)) d₀
+    allReadable (map readField (raws body)) ≡ true → LinesAre (wrapped (setup frame) (map readField (raws body))) out r out′

@@ -1,9 +1,5 @@
-// The block's lines in the store, and the sheet's head.
-use crate::Rendered;
+// The block's lines in the store.
 use crate::body::add_fields;
-use fields::store::clear;
-use fields::store::put_head;
-use fields::store::put_two;
 use flush_word::state::Flushed;
 use flush_word::state::State;
 use flush_word::state::no_blanks;
@@ -13,12 +9,12 @@ use hard_wrap::flush::flush_line;
 use hard_wrap::line::Frame;
 use hard_wrap::line::Open;
 ghost use mathlib.Core.Path.{_≡_};
-ghost use Prim.Native.Nat.{_^_, _<_, _≤_};
+ghost use Prim.Native.Nat.{_≤_};
 ghost use lib.ListN.{length};
 ghost use Rattle.fields.specs.Field.{raws};
 ghost use Rattle.fields.specs.Job.{bodyUnits};
 ghost use Rattle.flush_word.specs.Keep.{Small, Lent};
-ghost use Rattle.render.specs.Render.{newState, FrameSmall, LinesSmall, FlushesAll, IntoLines, Finishes};
+ghost use Rattle.render.specs.Render.{newState, FrameSmall, LinesSmall, FlushesAll, IntoLines};
 
 // The lines are closed and in the store, or the block was too narrow.
 pub enum Lines {
@@ -104,19 +100,4 @@ pub fn wrap_lines(frame: Frame, body: &[u8], out: &mut [u8]) -> Lines
     let mut wb = [0u8; 4096];
     let mut wt = [0u32; 4096];
     into_lines(frame, body, &mut lb, &mut lt, &mut wb, &mut wt, out)
-}
-
-// The lines stand in the store from 5 on; the head comes last, or the store is too short.
-pub fn finish(line: Open, store: &mut [u8]) -> Rendered
-    requires { ⌜ line .place < 2 ^ 61 ⌝ }
-    ensures { λ r. ⌜ Finishes line (now (store .entry)) r (now (store .exit)) ⌝ }
-{
-    let place = line.place;
-    if store.len() < place {
-        clear(store);
-        return Rendered::StoreShort(place);
-    }
-    let count = put_head(store, 0, b'H', 2);
-    put_two(store, count, line.lines % 65536);
-    Rendered::Sheet(place)
 }

@@ -13,14 +13,14 @@ use Rattle.render.proofs.render.Tie as tie
 job-refusal-requires : tie.Need-job-refusal-requires
 job-refusal-requires c κs = search needs
 
-clear-requires : tie.Need-clear-requires
-clear-requires c κs = search needs
+refuse-requires : tie.Need-refuse-requires
+refuse-requires c κs = search needs
 
 same-length : tie.Need-same-length
 same-length c = search needs
 
 returns : tie.Need-returns
-returns c = answers-refused _ _ _ _ (c .before .before .before .before .before .job-refusal .ensures) (c .before .before .before .before .if1 .taken) (c .before .before .clear .ensures)
+returns c = c .before .before .refuse .ensures ∙ answers-refused _ _ _ (c .before .before .before .before .before .job-refusal .ensures) (c .before .before .before .before .if1 .taken)
 
 read-head-requires : tie.Need-read-head-requires
 read-head-requires c κs = search needs
@@ -59,14 +59,14 @@ finish-requires c κs = rw (c .before .before .lines .given .1) at (c .before .b
 enum-told : tie.Need-enum-told
 enum-told c = search needs
 
-clear-requires-2 : tie.Need-clear-requires-2
-clear-requires-2 c κs = search needs
+refuse-requires-2 : tie.Need-refuse-requires-2
+refuse-requires-2 c κs = search needs
 
 enum-told-2 : tie.Need-enum-told-2
 enum-told-2 c = search needs
 
-clear-requires-3 : tie.Need-clear-requires-3
-clear-requires-3 c κs = search needs
+refuse-requires-3 : tie.Need-refuse-requires-3
+refuse-requires-3 c κs = search needs
 
 same-length-2 : tie.Need-same-length-2
 same-length-2 c = search needs
@@ -81,21 +81,21 @@ same-length-3 c = search needs
 
 returns-3 : tie.Need-returns-3
 returns-3 c =
-    answers-narrow _ _ (good (c .before .before .before .before .before .before .before .before .before .before .before .before)) _ _ _ _ (c .before .before .before .before .before .before .before .before .before .before .before .frame-of .ensures) (rw (c .before .before .before .before .enum-told .given .1) at (c .before .before .before .before .before .before .before .before .wrap-lines .ensures .1)) (c .before .before .clear2 .ensures) (c .before .before .before .before .before .before .before .store2 .given)
+    c .before .before .refuse2 .ensures ∙ answers-narrow _ _ (good (c .before .before .before .before .before .before .before .before .before .before .before .before)) _ _ _ (c .before .before .before .before .before .before .before .before .before .before .before .frame-of .ensures) (rw (c .before .before .before .before .enum-told .given .1) at (c .before .before .before .before .before .before .before .before .wrap-lines .ensures .1)) (c .before .before .before .before .before .before .before .store2 .given)
 
 same-length-4 : tie.Need-same-length-4
 same-length-4 c = search needs
 
 returns-4 : tie.Need-returns-4
 returns-4 c =
-    answers-refused _ _ _ 1 (job-headless _ (sym (c .before .before .before .before .before .before .read-head .ensures) ∙ ap headIn (c .before .before .before .before .enum-told2 .given .1))) (λ e. omega arith) (c .before .before .clear3 .ensures)
+    c .before .before .refuse3 .ensures ∙ answers-refused _ _ 1 (job-headless _ (sym (c .before .before .before .before .before .before .read-head .ensures) ∙ ap headIn (c .before .before .before .before .enum-told2 .given .1))) (λ e. omega arith)
 
 pub render-spec : {M : Type 1} → statement M
 render-spec =
     tie.close
     (tie.spec
     job-refusal-requires
-    clear-requires
+    refuse-requires
     same-length
     returns
     read-head-requires
@@ -108,9 +108,9 @@ render-spec =
     enum-known-lines
     finish-requires
     enum-told
-    clear-requires-2
+    refuse-requires-2
     enum-told-2
-    clear-requires-3
+    refuse-requires-3
     same-length-2
     returns-2
     same-length-3

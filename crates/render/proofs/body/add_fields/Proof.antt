@@ -31,7 +31,7 @@ enum-known-f c = search needs
 -- the field that a turn passes
 found : (c : tie.After-known-told Inv-loop μ-loop)
     → FieldIs (now (c .before .before .before .before .before .before .before .before .before .before .before .args .body)) (c .before .before .before .before .loop .at) (c .before .f .given .0 .0) (c .before .f .given .0 .1 .0) (c .before .f .given .0 .1 .1 .0)
-found c = field-is _ _ _ _ _ (c .before .before .before .before .loop .inv .inside) (sym (c .before .before .before .field-at .ensures) ∙ c .before .f .given .1)
+found c = field-is _ _ _ _ _ (c .before .before .before .before .loop .inv .inside) (sym (c .before .before .before .field-at .ensures .0) ∙ c .before .f .given .1)
 
 sub-add-field : tie.Need-sub-add-field Inv-loop μ-loop
 sub-add-field c = let r = found c in omega (arith, r .order)
@@ -115,7 +115,7 @@ returns-2 c =
     let a = c .before .before .before .before .before .before .before .before .before .before .args in
     let l = c .before .before .before .loop in (
       (l .inv .small, omega (arith, l .inv .units)),
-      added-broken (a .frame) (a .st) _ _ _ _ _ _ (l .cur) (l .at) _ _ _ _ _ (l .inv) (field-broken _ _ (sym (c .before .before .field-at .ensures) ∙ c .enum-told2 .given .1)),
+      added-broken (a .frame) (a .st) _ _ _ _ _ _ (l .cur) (l .at) _ _ _ _ _ (l .inv) (field-broken _ _ (sym (c .before .before .field-at .ensures .0) ∙ c .enum-told2 .given .1)),
     )
 
 enum-told-3 : tie.Need-enum-told-3 Inv-loop μ-loop
@@ -141,7 +141,7 @@ returns-3 c =
     let a = c .before .before .before .before .before .before .before .before .before .before .args in
     let l = c .before .before .before .loop in (
       (l .inv .small, omega (arith, l .inv .units)),
-      added-end (a .frame) (a .st) _ _ _ _ _ _ (l .cur) (l .at) _ _ _ _ _ (l .inv) (field-end _ _ (sym (c .before .before .field-at .ensures) ∙ c .enum-told3 .given .1)),
+      added-end (a .frame) (a .st) _ _ _ _ _ _ (l .cur) (l .at) _ _ _ _ _ (l .inv) (field-end _ _ (sym (c .before .before .field-at .ensures .0) ∙ c .enum-told3 .given .1)),
     )
 
 pub add-fields-spec : {M : Type 1} → statement M

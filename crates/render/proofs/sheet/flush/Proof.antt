@@ -53,7 +53,7 @@ same-length-6 c = search needs
 returns-2 : tie.Need-returns-2
 returns-2 c =
     let w = rw (c .enum-told .given .1) at (c .before .before .before .before .before .before .before .before .flush-word .ensures .1) in
-    (tt, λ d₀ base b k. flushes-narrow (setup (c .before .before .before .before .before .before .before .before .before .before .before .before .before .before .before .before .before .args .frame)) b (w d₀ base b k))
+    (tt, λ d₀ b k. flushes-narrow (setup (c .before .before .before .before .before .before .before .before .before .before .before .before .before .before .before .before .before .args .frame)) b (w d₀ 5 b k))
 
 pub flush-spec : {M : Type 1} → statement M
 flush-spec =

@@ -1,0 +1,47 @@
+// The columns of a text (`UnicodeWidthStr::width`).
+use characters::columns::Columns;
+use characters::columns::columns_of;
+use characters::utf8::Decoded;
+use characters::utf8::decode;
+use fields::field::wide;
+ghost use mathlib.Core.Path.{_≡_};
+ghost use Prim.Native.Nat.{_*_, _^_, _≤_, _<_};
+ghost use lib.ListN.{length};
+ghost use Rattle.characters.specs.Columns.{cols};
+ghost use Rattle.rows.specs.TaggedLine.{text-width};
+
+// The columns of a character, 0 for a control.
+fn char_width(c: u32) -> usize
+    ensures { λ r. ⌜ r ≤ 2 ⌝ }
+    ensures { λ r. ⌜ r ≡ cols c ⌝ }
+{
+    let k = columns_of(c);
+    match k {
+        Columns::Control => 0,
+        Columns::Cols(n) => wide(n),
+        Columns::OffList => 0,
+    }
+}
+
+// The columns of a text; 0 for bytes that are no text.
+pub fn text_width(text: &[u8]) -> usize
+    requires { ⌜ length (now text) < 2 ^ 40 ⌝ }
+    ensures { λ r. ⌜ r ≤ 2 * length (now (text .entry)) ⌝ }
+    ensures { λ r. ⌜ r ≡ text-width (now (text .entry)) ⌝ }
+{
+    let mut at: usize = 0;
+    let mut cols: usize = 0;
+    while at < text.len() {
+        let d = decode(&text[at..]);
+        match d {
+            Decoded::Char { code, len } => {
+                cols += char_width(code);
+                at += len;
+            }
+            Decoded::Bad => {
+                return 0;
+            }
+        }
+    }
+    cols
+}
