@@ -6,3 +6,4 @@ pub mod Jobs
 pub mod Sheets
 pub mod Back
 pub mod Finishing
+pub mod Readings

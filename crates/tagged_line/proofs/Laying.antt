@@ -22,6 +22,7 @@ use Rattle.fields.specs.Field.{field, whole, broken, raws, both, readAll, all}
 use Rattle.fields.specs.Sheet.{Piece, str, fragment, readStr, readPiece, readablePiece, pieceBytes, piecesBytes}
 use Rattle.fields.specs.Store.{Wrote}
 use Rattle.fields.proofs.Texts.{rest}
+use Rattle.fields.proofs.Readings.{read-first}
 use Rattle.fields.proofs.Fields.{FieldIs}
 use Rattle.fields.proofs.Back.{every-append}
 use Rattle.fields.proofs.Sets.{sets-append, wrote-then, wrote-none}
@@ -252,20 +253,11 @@ record Next (letter : ℕ) (t after : List ℕ) (ps : List Piece) : Type 0 where
   later : PiecesOf after others
   all : ps ≡ one ∷ others
 
-both-some : (o : Option Piece) (os : Option (List Piece)) (ps : List Piece) → both o os ≡ some ps
-    → (q : Piece) × (qs : List Piece) × (o ≡ some q) × (os ≡ some qs) × (ps ≡ q ∷ qs)
-both-some none os ps e = absurd (let z : _≡_ {A = ℕ} 0 1 = cc in omega arith)
-both-some (some q) none ps e = absurd (let z : _≡_ {A = ℕ} 0 1 = cc in omega arith)
-both-some (some q) (some qs) ps e = (q, qs, refl, refl, cc)
-
 module _ (s : List ℕ) (at : ℕ) (ps : List Piece) (e : PiecesOf (drop at s) ps) where
   next : (letter start past : ℕ) → FieldIs s at letter start past → Next letter (take (past - start) (drop start s)) (drop past s) ps
-  unfolding readAll
   next letter start past f =
-      let (q, qs, eq, es, ep) =
-      both-some (readPiece (whole letter (take (past - start) (drop start s)))) (readAll readPiece (raws (drop past s))) ps
-      (sym (ap (readAll readPiece) (f .fields)) ∙ e) in
-      record { one = q; others = qs; piece = eq; later = es; all = ep }
+      let x = read-first readPiece (whole letter (take (past - start) (drop start s))) (raws (drop past s)) ps (sym (ap (readAll readPiece) (f .fields)) ∙ e) in
+      record { one = x .one; others = x .more; piece = x .first; later = x .later; all = x .are }
 
   -- no content that was read ends in a rest that is no field
   none-broken : raws (drop at s) ≡ broken ∷ [] → ⊥

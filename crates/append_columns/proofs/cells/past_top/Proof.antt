@@ -1,0 +1,62 @@
+-- `cells::past_top` meets its contract. Assumes nothing.
+use mathlib.Core.Path.{sym, _∙_}
+use native.Mathlib.Omega.{arith}
+use denote.Ref.{now}
+use Rattle.append_columns.proofs.CellLaws.{FoundAt, found-at, top-none, top-border, top-text, top-broken, top-end}
+use borrow.Author.Needs.{needs}
+use Rattle.append_columns.proofs.cells.past_top.Statement.{statement}
+use Rattle.append_columns.proofs.cells.past_top.Tie as tie
+
+returns : tie.Need-returns
+returns c = ((omega arith, λ h. absurd (omega (arith, h))), top-none _ _ _ (c .if1 .taken))
+
+field-at-requires : tie.Need-field-at-requires
+field-at-requires c κs = search needs
+
+enum-known-f : tie.Need-enum-known-f
+enum-known-f c = search needs
+
+-- the field that is found
+found : (c : tie.After-known-told) → FoundAt (now (c .before .before .before .before .before .before .args .s)) (c .before .before .before .before .before .before .args .from) (c .before .f .given .0 .0) (c .before .f .given .0 .1 .0) (c .before .f .given .0 .1 .1 .0)
+found c = found-at _ _ _ _ _ (sym (c .before .before .before .field-at .ensures .0) ∙ c .before .f .given .1)
+
+returns-2 : tie.Need-returns-2
+returns-2 c =
+    let r = found (c .before) in (
+      (omega (arith, r .next-is), λ h. (c .before .before .before .before .before .if1 .left, sym (r .letter-is) ∙ c .if2 .taken)),
+      top-border _ _ _ _ _ _ (c .before .before .before .before .before .if1 .left) (sym (c .before .before .before .before .field-at .ensures .0) ∙ c .before .before .f .given .1) (c .if2 .taken),
+    )
+
+enum-told : tie.Need-enum-told
+enum-told c = search needs
+
+enum-told-2 : tie.Need-enum-told-2
+enum-told-2 c = search needs
+
+returns-3 : tie.Need-returns-3
+returns-3 c = (
+  (omega arith, λ h. absurd (omega (arith, h))),
+  top-text _ _ _ _ _ _ (c .before .before .before .before .before .if1 .left) (sym (c .before .before .before .before .field-at .ensures .0) ∙ c .before .before .f .given .1) (c .if2 .left),
+)
+
+returns-4 : tie.Need-returns-4
+returns-4 c =
+    ((omega arith, λ h. absurd (omega (arith, h))), top-broken _ _ _ (c .before .before .before .if1 .left) (sym (c .before .before .field-at .ensures .0) ∙ c .enum-told .given .1))
+
+returns-5 : tie.Need-returns-5
+returns-5 c =
+    ((omega arith, λ h. absurd (omega (arith, h))), top-end _ _ _ (c .before .before .before .if1 .left) (sym (c .before .before .field-at .ensures .0) ∙ c .enum-told2 .given .1))
+
+pub past-top-spec : {M : Type 1} → statement M
+past-top-spec =
+    tie.close
+    (tie.spec
+    returns
+    field-at-requires
+    enum-known-f
+    returns-2
+    enum-told
+    enum-told-2
+    returns-3
+    returns-4
+    returns-5)

@@ -1,0 +1,4 @@
+pub mod Cells
+pub mod Edges
+pub mod Row
+pub mod Laid

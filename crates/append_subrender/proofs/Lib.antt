@@ -1,0 +1,4 @@
+pub mod Pairing
+pub mod Adding
+pub mod Stacking
+pub mod Calling

@@ -1,0 +1,108 @@
+// Cells below each other.
+use crate::prefixed::add_prefixed;
+use add_line::lines::Lines;
+use add_line::lines::add_border;
+use borders::border::new_type;
+use fields::field::Field;
+use fields::field::field_at;
+use fields::field::wide;
+use rows::Setup;
+ghost use Prim.Native.Nat.{_+_, _*_, _≤_, _<_};
+ghost use lib.ListN.{length};
+ghost use Rattle.fields.specs.Field.{raws};
+ghost use Rattle.add_line.specs.Emitted.{InBounds, Next};
+ghost use Rattle.append_subrender.specs.Prefixes.{AddsRule, AddsRuleIf, AddsCell, AddsCells};
+
+// A border of one segment, as wide as the sheet.
+fn add_rule(out: &mut [u8], lines: Lines, setup: Setup, segment: u8) -> Lines
+    requires { ⌜ InBounds lines ⌝ }
+    ensures { λ r. ⌜ Next lines r ⌝ }
+    ensures { λ r. ⌜ AddsRule (now (out .entry)) lines setup segment (now (out .exit)) r ⌝ }
+{
+    let mut rule = [0u8; 256];
+    let n = new_type(&mut rule, wide(setup.width), segment);
+    add_border(out, lines, setup, setup.annotation, &rule[..n])
+}
+
+// The same, if it is to be drawn.
+pub fn add_rule_if(out: &mut [u8], lines: Lines, setup: Setup, segment: u8, drawn: bool) -> Lines
+    requires { ⌜ InBounds lines × (lines .count < 1000000) ⌝ }
+    ensures { λ r. ⌜ InBounds r × (r .count ≤ lines .count + 1) ⌝ }
+    ensures { λ r. ⌜ AddsRuleIf (now (out .entry)) lines setup segment drawn (now (out .exit)) r ⌝ }
+{
+    if drawn {
+        return add_rule(out, lines, setup, segment);
+    }
+    lines
+}
+
+// The lines of a cell, each behind an empty prefix.
+fn add_cell(out: &mut [u8], lines: Lines, setup: Setup, body: &[u8]) -> Lines
+    requires { ⌜ InBounds lines × (3 * lines .count + length (now body) < 3000000) ⌝ }
+    ensures { λ r. ⌜ InBounds r × (3 * r .count ≤ 3 * lines .count + length (now (body .entry))) ⌝ }
+    ensures { λ r. ⌜ AddsCell (now (out .entry)) lines setup (now (body .entry)) (now (out .exit)) r ⌝ }
+{
+    let mut next = lines;
+    let mut at: usize = 0;
+    loop {
+        let f = field_at(body, at);
+        match f {
+            Field::At {
+                letter,
+                start,
+                next: past,
+            } => {
+                next = add_prefixed(
+                    out,
+                    next,
+                    setup,
+                    &body[start..start],
+                    0,
+                    letter,
+                    &body[start..past],
+                );
+                at = past;
+            }
+            Field::Broken => {
+                return next;
+            }
+            Field::End => {
+                return next;
+            }
+        }
+    }
+}
+
+// Each cell, with a border of HorizVert before all but the first, if borders are on.
+pub fn add_cells(out: &mut [u8], lines: Lines, setup: Setup, cells: &[u8]) -> Lines
+    requires { ⌜ InBounds lines × (lines .count ≤ 65535) × (length (raws (now cells)) ≤ 16) ⌝ }
+    ensures { λ r. ⌜ InBounds r × (r .count < 1000000) ⌝ }
+    ensures { λ r. ⌜ AddsCells (now (out .entry)) lines setup (now (cells .entry)) (now (out .exit)) r ⌝ }
+{
+    let mut next = lines;
+    let mut between = false;
+    let mut at: usize = 0;
+    loop {
+        let f = field_at(cells, at);
+        match f {
+            Field::At {
+                letter: _,
+                start,
+                next: past,
+            } => {
+                next = add_rule_if(out, next, setup, 5, between);
+                if start < past {
+                    next = add_cell(out, next, setup, &cells[start + 1..past]);
+                }
+                between = setup.borders;
+                at = past;
+            }
+            Field::Broken => {
+                return next;
+            }
+            Field::End => {
+                return next;
+            }
+        }
+    }
+}
