@@ -1,0 +1,133 @@
+// Lines and pieces by their places. The first line of a sheet stands at 5, behind the head; the next one where a line ends.
+use fields::field::Field;
+use fields::field::field_at;
+ghost use mathlib.Core.Path.{_≡_};
+ghost use Rattle.reader.specs.Reading.{pieceAt, lineAt, partOf, textOf};
+
+// A piece of a line: a text with its annotation or a name, from one place to another, where the next piece stands; the end of the line; or
+// what is no piece.
+pub enum Piece {
+    Text {
+        annotation: u8,
+        start: usize,
+        end: usize,
+    },
+    Name {
+        start: usize,
+        end: usize,
+    },
+    Broken,
+    End,
+}
+
+// A line: a text with its first piece and the place where it ends, or a border with its annotation, the place of its segments and their number; the
+// end of the sheet; or what is no line. The next line stands where this one ends.
+pub enum Line {
+    Text {
+        first: Piece,
+        end: usize,
+    },
+    Border {
+        annotation: u8,
+        place: usize,
+        length: usize,
+    },
+    Broken,
+    End,
+}
+
+// The piece at a place of a line that ends at a place.
+pub fn piece_at(sheet: &[u8], at: usize, end: usize) -> Piece
+    ensures { λ r. ⌜ r ≡ pieceAt at end (now (sheet .entry)) ⌝ }
+{
+    if sheet.len() < end {
+        return Piece::Broken;
+    }
+    let f = field_at(&sheet[..end], at);
+    match f {
+        Field::At {
+            letter,
+            start,
+            next,
+        } => {
+            if letter == b'F' {
+                return Piece::Name { start, end: next };
+            }
+            if letter != b'S' {
+                return Piece::Broken;
+            }
+            if next - start < 2 {
+                return Piece::Broken;
+            }
+            Piece::Text {
+                annotation: sheet[start],
+                start: start + 1,
+                end: next,
+            }
+        }
+        Field::Broken => Piece::Broken,
+        Field::End => Piece::End,
+    }
+}
+
+// The line at a place.
+pub fn line_at(sheet: &[u8], at: usize) -> Line
+    ensures { λ r. ⌜ r ≡ lineAt at (now (sheet .entry)) ⌝ }
+{
+    let f = field_at(sheet, at);
+    match f {
+        Field::At {
+            letter,
+            start,
+            next,
+        } => {
+            if letter == b'L' {
+                let first = piece_at(sheet, start, next);
+                return Line::Text { first, end: next };
+            }
+            if letter != b'B' {
+                return Line::Broken;
+            }
+            if next <= start {
+                return Line::Broken;
+            }
+            let place = start + 1;
+            Line::Border {
+                annotation: sheet[start],
+                place,
+                length: next - place,
+            }
+        }
+        Field::Broken => Line::Broken,
+        Field::End => Line::End,
+    }
+}
+
+// A part of the sheet's bytes, itself; nothing where the places are not in it.
+pub fn part_of<'a>(sheet: &'a [u8], start: usize, end: usize) -> &'a [u8]
+    ensures { λ r. ⌜ now r ≡ partOf start end (now (sheet .entry)) ⌝ }
+{
+    if end < start {
+        return &sheet[0..0];
+    }
+    if sheet.len() < end {
+        return &sheet[0..0];
+    }
+    &sheet[start..end]
+}
+
+// The text of a piece, or its name, as a part of the sheet's own bytes.
+pub fn text_of<'a>(sheet: &'a [u8], piece: Piece) -> &'a [u8]
+    ensures { λ r. ⌜ now r ≡ textOf piece (now (sheet .entry)) ⌝ }
+{
+    match piece {
+        Piece::Text {
+            annotation: _,
+            start,
+            end,
+        } => part_of(sheet, start, end),
+        Piece::Name { start, end } => part_of(sheet, start, end),
+        Piece::Broken => part_of(sheet, 0, 0),
+        Piece::End => part_of(sheet, 0, 0),
+    }
+}
