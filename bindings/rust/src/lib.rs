@@ -1,0 +1,163 @@
+//! Text wrapped into the lines of a *sheet*, and tables laid onto it.
+//!
+//! These are safe functions over the archive `libsheet_c.a`. For every input, however
+//! damaged, the archive's calls are proved to give the number, the length and every byte of
+//! the store that a definition gives.
+//!
+//! A job, a sheet, cells and prefixes are bytes in the house format: a field is a letter, a
+//! length of two bytes, high byte first, and that many bytes. Each call writes a sheet into a
+//! store that the caller lends and gives its length, or a [`Refusal`]. On success the store's
+//! bytes past the sheet are as they were; on a refusal the whole store is zeroed. Nothing is
+//! allocated, and a call uses at most 71 KB of stack.
+//!
+//! ```
+//! // Width 8, then the text "bolt M8 zinc" in Normal.
+//! let job = b"W\0\x03\x08\0\0T\0\x0f\0\0\0bolt M8 zinc";
+//! let mut store = [0; 64];
+//! let length = sheet::render(job, &mut store)?;
+//! // Two lines, each with one piece of annotation 0.
+//! assert_eq!(&store[..length], b"H\0\x02\0\x02L\0\x0bS\0\x08\0bolt M8L\0\x08S\0\x05\0zinc");
+//! # Ok::<(), sheet::Refusal>(())
+//! ```
+
+#![deny(missing_docs)]
+
+mod archive;
+mod refusal;
+
+pub use refusal::Refusal;
+
+/// The length of the sheet that a call wrote, or why it wrote none.
+pub type Answer = Result<usize, Refusal>;
+
+/// What comes with each call that lays lines onto a sheet.
+#[derive(Clone, Copy, Debug, PartialEq, Eq)]
+pub struct Setup {
+    /// The sheet's width in columns.
+    pub width: u8,
+    /// Are added lines filled with spaces to the width?
+    pub pad: bool,
+    /// Are borders and the edges of cells drawn?
+    pub borders: bool,
+    /// The annotation of what the call itself writes.
+    pub annotation: u8,
+}
+
+/// The sheet of a job: its texts wrapped to the block's width.
+///
+/// Refusals: 1 to 5 and 8.
+///
+/// ```
+/// use sheet::{Refusal, render};
+///
+/// let mut store = [0; 64];
+/// // A job of width 1 whose text is a sign of two columns.
+/// let job = b"W\0\x03\x01\0\0T\0\x06\0\0\0\xe6\xbc\xa2";
+/// assert_eq!(render(job, &mut store), Err(Refusal::TooNarrow));
+/// // With overflow allowed it stands on a line of its own.
+/// let job = b"W\0\x03\x01\x02\0T\0\x06\0\0\0\xe6\xbc\xa2";
+/// assert_eq!(render(job, &mut store), Ok(15));
+/// // A store that is too short: the length needed comes back.
+/// assert_eq!(render(job, &mut store[..10]), Err(Refusal::StoreShort(15)));
+/// ```
+pub fn render(job: &[u8], store: &mut [u8]) -> Answer {
+    let mut length = 0;
+    let number = archive::render(job, store, &mut length);
+    answer(number, length)
+}
+
+/// The sheet with the guest sheet's lines added, each behind a prefix.
+///
+/// Lines and prefixes (P fields) go in pairs, which end with the shorter list; with
+/// `repeat_last` the last prefix repeats. Refusals: 1, 2, 3, 7, 8 and 9.
+///
+/// ```
+/// use sheet::{Setup, append_subrender};
+///
+/// let setup = Setup { width: 9, pad: false, borders: true, annotation: 0 };
+/// let empty = b"H\0\x02\0\0";
+/// let guest = b"H\0\x02\0\x01L\0\x06S\0\x03\0ab";
+/// let mut store = [0; 32];
+/// let length = append_subrender(setup, empty, guest, b"P\0\x02* ", false, &mut store)?;
+/// assert_eq!(&store[..length], b"H\0\x02\0\x01L\0\x08S\0\x05\0* ab");
+/// # Ok::<(), sheet::Refusal>(())
+/// ```
+pub fn append_subrender(
+    setup: Setup,
+    sheet: &[u8],
+    guest: &[u8],
+    prefixes: &[u8],
+    repeat_last: bool,
+    store: &mut [u8],
+) -> Answer {
+    let mut length = 0;
+    let guests = (guest, prefixes, repeat_last);
+    let number = archive::append_subrender(setup, sheet, guests, store, &mut length);
+    answer(number, length)
+}
+
+/// The sheet with a row of cells beside each other (at most 16 C fields).
+///
+/// The cells' inner edges are joined to the border above, if the sheet ends in one, and to a
+/// new border below. With `collapse` the cells' own first and last borders are merged into
+/// these two. Refusals: 1, 2, 3, 6, 7, 8 and 9.
+///
+/// ```
+/// use sheet::{Setup, append_columns_with_borders};
+///
+/// let setup = Setup { width: 3, pad: false, borders: true, annotation: 0 };
+/// // ───, and the cells "a" and "b", each of width 1.
+/// let under = b"H\0\x02\0\x01B\0\x04\0\0\0\0";
+/// let cells = b"C\0\x09\x01L\0\x05S\0\x02\0aC\0\x09\x01L\0\x05S\0\x02\0b";
+/// let mut store = [0; 64];
+/// let length = append_columns_with_borders(setup, under, cells, false, &mut store)?;
+/// // ─┬─, a│b, ─┴─
+/// let joined = b"H\0\x02\0\x03B\0\x04\0\0\x02\0L\0\x09S\0\x06\0a\xe2\x94\x82bB\0\x04\0\0\x01\0";
+/// assert_eq!(&store[..length], joined);
+/// # Ok::<(), sheet::Refusal>(())
+/// ```
+pub fn append_columns_with_borders(
+    setup: Setup,
+    sheet: &[u8],
+    cells: &[u8],
+    collapse: bool,
+    store: &mut [u8],
+) -> Answer {
+    let mut length = 0;
+    let number = archive::append_columns(setup, sheet, (cells, collapse), store, &mut length);
+    answer(number, length)
+}
+
+/// The sheet with cells below each other (at most 16 C fields).
+///
+/// With borders on, a border stands between two cells and one at the end. Refusals: 1, 2, 3,
+/// 7, 8 and 9.
+///
+/// ```
+/// use sheet::{Setup, append_vert_row};
+///
+/// let setup = Setup { width: 2, pad: false, borders: true, annotation: 0 };
+/// let empty = b"H\0\x02\0\0";
+/// let cells = b"C\0\x09\x01L\0\x05S\0\x02\0aC\0\x09\x01L\0\x05S\0\x02\0b";
+/// let mut store = [0; 64];
+/// let length = append_vert_row(setup, empty, cells, &mut store)?;
+/// // a, //, b, ──
+/// let below = b"H\0\x02\0\x04L\0\x05S\0\x02\0aB\0\x03\0\x05\x05L\0\x05S\0\x02\0bB\0\x03\0\0\0";
+/// assert_eq!(&store[..length], below);
+/// # Ok::<(), sheet::Refusal>(())
+/// ```
+pub fn append_vert_row(setup: Setup, sheet: &[u8], cells: &[u8], store: &mut [u8]) -> Answer {
+    let mut length = 0;
+    let number = archive::append_vert_row(setup, sheet, cells, store, &mut length);
+    answer(number, length)
+}
+
+/// A call's two numbers as a result. A length is that of bytes in memory or of a sheet that
+/// would be, so it fits.
+fn answer(number: u8, length: u64) -> Answer {
+    let length = usize::try_from(length).expect("a length of at most 64 bits");
+    match Refusal::of(number, length) {
+        None => Ok(length),
+        Some(refusal) => Err(refusal),
+    }
+}

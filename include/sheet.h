@@ -1,0 +1,74 @@
+/* Viseorchid: text wrapped into the lines of a sheet, and tables laid onto it.
+ *
+ * The calls of target/staticlib/libsheet_c.a, which `rt staticlib sheet_c` proves and builds. README.md describes
+ * the house format of jobs, sheets, cells and prefixes.
+ *
+ * Every call reads its inputs and writes a sheet into the lent store. It gives back a number:
+ *   0       The sheet stands at the start of the store, and *length is its length in bytes. The store's bytes
+ *           past the sheet are as they were.
+ *   1 to 9  A refusal (enum sheet_refusal). The whole store is zeroed, and *length is 0; for refusal 8 it is the
+ *           length that the store would need.
+ * A call takes every input, however damaged. It never fails otherwise, allocates nothing and keeps nothing; it uses
+ * at most 71 KB of stack, and calls from several threads do not disturb each other.
+ *
+ * What a caller owes: each pointer is valid for its length and not null, also where the length is 0; `length` is not
+ * null; the store and *length overlap with no input and not with each other; a flag is true or false.
+ */
+#ifndef SHEET_H
+#define SHEET_H
+
+#include <stdbool.h>
+#include <stddef.h>
+#include <stdint.h>
+
+#ifdef __cplusplus
+extern "C" {
+#endif
+
+/* The numbers of the refusals. Where several apply, 1 to 4 come first, over the whole input, then 5, 6, 7, 9, 8. */
+enum sheet_refusal {
+    SHEET_CROOKED_RECORD = 1,    /* a field breaks the format, is missing or out of place; over 16 cells */
+    SHEET_NO_WIDTH = 2,          /* the width of a block, cell or sheet is 0 */
+    SHEET_STRANGE_CHARACTER = 3, /* not well-formed UTF-8, or a character that is off the list */
+    SHEET_OVERFULL_JOB = 4,      /* a job's texts and names have over 4,096 bytes, one more counted for each name */
+    SHEET_TOO_NARROW = 5,        /* a character is wider than its line, and overflow is not allowed */
+    SHEET_NO_BORDER_ABOVE = 6,   /* collapsing meets a cell that starts with a border, under no border */
+    SHEET_LONG_LINE = 7,         /* a line of the result has over 65,535 bytes */
+    SHEET_STORE_SHORT = 8,       /* the sheet is longer than the store */
+    SHEET_LONG_SHEET = 9         /* the result has over 65,535 lines */
+};
+
+/* The sheet of a job: its texts wrapped to the block's width. Refusals 1 to 5 and 8. */
+uint8_t sheet_render(const uint8_t *job, size_t job_length,
+                     uint8_t *store, size_t store_length, uint64_t *length);
+
+/* The sheet with the guest sheet's lines added, each behind a prefix. Lines and prefixes (P fields) go in pairs, which
+ * end with the shorter list; with `repeat_last` the last prefix repeats. Refusals 1, 2, 3, 7, 8 and 9. */
+uint8_t sheet_append_subrender(const uint8_t *sheet, size_t sheet_length,
+                               const uint8_t *guest, size_t guest_length,
+                               const uint8_t *prefixes, size_t prefixes_length,
+                               bool repeat_last, uint8_t width, bool pad, bool borders, uint8_t annotation,
+                               uint8_t *store, size_t store_length, uint64_t *length);
+
+/* The sheet with a row of cells (at most 16 C fields) beside each other, their inner edges joined to the borders above
+ * and below. `collapse` merges the cells' own first and last borders into these two. Refusals 1, 2, 3, 6, 7, 8, 9. */
+uint8_t sheet_append_columns_with_borders(const uint8_t *sheet, size_t sheet_length,
+                                          const uint8_t *cells, size_t cells_length,
+                                          bool collapse, uint8_t width, bool pad, bool borders, uint8_t annotation,
+                                          uint8_t *store, size_t store_length, uint64_t *length);
+
+/* The sheet with cells (at most 16 C fields) below each other and, with `borders`, a border between two cells and one
+ * at the end. Refusals 1, 2, 3, 7, 8 and 9. */
+uint8_t sheet_append_vert_row(const uint8_t *sheet, size_t sheet_length,
+                              const uint8_t *cells, size_t cells_length,
+                              uint8_t width, bool pad, bool borders, uint8_t annotation,
+                              uint8_t *store, size_t store_length, uint64_t *length);
+
+/* In the last three: `width` is the sheet's width in columns, `pad` fills each added line to it, `borders` draws the
+ * borders and edges, and `annotation` marks what the call itself writes. */
+
+#ifdef __cplusplus
+}
+#endif
+
+#endif
