@@ -17,9 +17,14 @@ use std::{iter, str};
 type Lent<'a> = Line<&'a [u8]>;
 type Owned = Line<String>;
 
+/// Runs a job's block.
+pub(crate) fn block(job: &Job<&[u8]>) -> Result<Vec<Owned>, TooNarrow> {
+    wrapped(&job.map(|bytes| utf8(bytes)))
+}
+
 /// Runs a block: `new`, `add_text` or `add_element` a part, `into_lines`.
 /// The annotation is the tag.
-pub(crate) fn block(job: &Job<&[u8]>) -> Result<Vec<Owned>, TooNarrow> {
+pub(crate) fn wrapped(job: &Job<&str>) -> Result<Vec<Owned>, TooNarrow> {
     let mut block = WrappedBlock::new(
         usize::from(job.width),
         job.pad,
@@ -33,9 +38,9 @@ pub(crate) fn block(job: &Job<&[u8]>) -> Result<Vec<Owned>, TooNarrow> {
                 first,
                 continued,
                 text,
-            } => block.add_text(utf8(text), white_space(*mode), first, continued)?,
+            } => block.add_text(text, white_space(*mode), first, continued)?,
             Part::Name(name) => {
-                block.add_element(TaggedLineElement::FragmentStart(utf8(name).into()));
+                block.add_element(TaggedLineElement::FragmentStart((*name).into()));
             }
         }
     }
@@ -82,10 +87,35 @@ pub(crate) fn columns(
     cells: &[Cell<&[u8]>],
     collapse: bool,
 ) -> Vec<Owned> {
-    let mut target = renderer(sheet, sheet.width, old);
-    let cells = renderers(sheet, cells).map(|cell| (cell, 1));
-    let done = target.append_columns_with_borders(cells, collapse);
-    lines_out(target, done)
+    Columns::new(sheet, old, cells, collapse).run()
+}
+
+/// A call of `append_columns_with_borders` whose inputs stand in renderers.
+pub(crate) struct Columns {
+    target: SubRenderer<Numbers>,
+    cells: Vec<SubRenderer<Numbers>>,
+    collapse: bool,
+}
+
+impl Columns {
+    pub(crate) fn new(
+        sheet: &Sheet,
+        old: &[Lent],
+        cells: &[Cell<&[u8]>],
+        collapse: bool,
+    ) -> Columns {
+        Columns {
+            target: renderer(sheet, sheet.width, old),
+            cells: renderers(sheet, cells).collect(),
+            collapse,
+        }
+    }
+
+    pub(crate) fn run(mut self) -> Vec<Owned> {
+        let cells = self.cells.into_iter().map(|cell| (cell, 1));
+        let done = self.target.append_columns_with_borders(cells, self.collapse);
+        lines_out(self.target, done)
+    }
 }
 
 /// Runs `append_vert_row`.

@@ -71,6 +71,38 @@ pub struct Job<T> {
     pub parts: Vec<Part<T>>,
 }
 
+impl<T> Job<T> {
+    /// The same job with its texts and names given otherwise.
+    pub fn map<'a, U>(&'a self, give: impl Fn(&'a T) -> U) -> Job<U> {
+        Job {
+            width: self.width,
+            pad: self.pad,
+            overflow: self.overflow,
+            annotation: self.annotation,
+            parts: self.parts.iter().map(|part| part.map(&give)).collect(),
+        }
+    }
+}
+
+impl<T> Part<T> {
+    fn map<'a, U>(&'a self, give: impl Fn(&'a T) -> U) -> Part<U> {
+        match self {
+            Part::Text {
+                mode,
+                first,
+                continued,
+                text,
+            } => Part::Text {
+                mode: *mode,
+                first: *first,
+                continued: *continued,
+                text: give(text),
+            },
+            Part::Name(name) => Part::Name(give(name)),
+        }
+    }
+}
+
 /// One field: a letter, a two-byte length (high byte first), the content.
 #[derive(Clone, Copy)]
 struct Field<'a> {

@@ -1,7 +1,7 @@
 //! The oracle: what html2text 0.17.4 answers to document 01's jobs and row calls.
 //!
 //! `format` and `checks` read the house format, `call` runs the crate's own code
-//! and gives the answer of a call, `record` is the file format of questions with
+//! and gives the answer of a call, `layout` runs it alone on decoded inputs, `record` is the file format of questions with
 //! answers, and `vectors` makes such files.
 
 // The crate's own text: macros, WhitespaceExt, WhiteSpace, Colour, config, render.
@@ -19,6 +19,7 @@ mod damage;
 mod edges;
 pub mod format;
 mod guard;
+pub mod layout;
 mod make;
 mod random;
 pub mod record;
