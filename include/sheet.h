@@ -9,7 +9,7 @@
  *   1 to 9  A refusal (enum sheet_refusal). The whole store is zeroed, and *length is 0; for refusal 8 it is the
  *           length that the store would need.
  * A call takes every input, however damaged. It never fails otherwise, allocates nothing and keeps nothing; it uses
- * at most 71 KB of stack, and calls from several threads do not disturb each other.
+ * about 71 KB of stack, and calls from several threads do not disturb each other.
  *
  * What a caller owes: each pointer is valid for its length and not null, also where the length is 0; `length` is not
  * null; the store and *length overlap with no input and not with each other; a flag is true or false.

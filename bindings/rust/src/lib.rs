@@ -8,7 +8,7 @@
 //! length of two bytes, high byte first, and that many bytes. Each call writes a sheet into a
 //! store that the caller lends and gives its length, or a [`Refusal`]. On success the store's
 //! bytes past the sheet are as they were; on a refusal the whole store is zeroed. Nothing is
-//! allocated, and a call uses at most 71 KB of stack.
+//! allocated, and a call uses about 71 KB of stack.
 //!
 //! ```
 //! // Width 8, then the text "bolt M8 zinc" in Normal.
