@@ -55,7 +55,8 @@ pub extern "C" fn sheet_append_subrender(
     store: &mut [u8],
     length: &mut u64,
 ) -> u8
-    ensures { λ r. ⌜ answer r (now (length .exit)) (now (store .exit)) ≡ subrenderAnswer (setup width pad borders annotation) (now (sheet .entry)) (now (guest .entry)) (now (prefixes .entry)) «repeat_last» (now (store .entry)) ⌝ }
+    ensures { λ r. ⌜ answer r (now (length .exit)) (now (store .exit))
+        ≡ subrenderAnswer (setup width pad borders annotation) (now (sheet .entry)) (now (guest .entry)) (now (prefixes .entry)) «repeat_last» (now (store .entry)) ⌝ }
 {
     let setup = Setup {
         width,
