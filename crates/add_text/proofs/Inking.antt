@@ -54,7 +54,6 @@ fits-cols frame w part c n cols h r e f g =
     let b : length part ≡ length (utf8 c) = ap length (h .bytes) in
     record {
       some = r .some;
-      two = omega (arith, cols-le-two c);
       bytes = omega (arith, cols-bytes c (h .scalar));
       units = r .units;
     }
@@ -105,18 +104,20 @@ keeps-wrapped {b = b} h =
 
 -- ---- a character of a word
 
-not-pre : (m : Mode) → (modeNo m ≡ 1 → ⊥) → isPre m ≡ false
+-- A mode that is not Pre.
+pub not-pre : (m : Mode) → (modeNo m ≡ 1 → ⊥) → isPre m ≡ false
 not-pre normal h = refl
 not-pre pre h = absurd (h refl)
 not-pre preWrap h = refl
 
-is-pre : (m : Mode) → modeNo m ≡ 1 → isPre m ≡ true
+-- Pre.
+pub is-pre : (m : Mode) → modeNo m ≡ 1 → isPre m ≡ true
 is-pre normal e = absurd (omega arith)
 is-pre pre e = refl
 is-pre preWrap e = absurd (omega arith)
 
 -- the columns of line, blanks and word with a character of n columns
-abbrev far : flat.Walk → ℕ → ℕ
+abbrev pub far : flat.Walk → ℕ → ℕ
 far v n = columns (v .block .line) + v .block .wslen + (columns (v .block .word) + n)
 
 -- the same, by the code
@@ -124,12 +125,12 @@ abbrev reach : Walk → ℕ → ℕ
 reach w n = w .st .line .cols + w .st .blanks .count + (w .st .word .cols + n)
 
 module _ (s : Setup) (m : Mode) (wrap c n : ℕ) (v : flat.Walk) where
-  ink-on : (isPre m && ltb (s .width) (far v n)) ≡ false
+  pub ink-on : (isPre m && ltb (s .width) (far v n)) ≡ false
       → addInk s m wrap c (some n) v ≡ walk (withWord (pushChar (v .block .word) c (tag (v .ann) m)) (v .block)) (v .ann)
   unfolding addInk
   ink-on e = rw e
 
-  ink-wraps : isPre m ≡ true → s .width < far v n
+  pub ink-wraps : isPre m ≡ true → s .width < far v n
       → addInk s m wrap c (some n) v ≡ walk (withWord (pushChar (v .block .word) c (tag wrap m)) (withWrapped true (v .block))) wrap
   unfolding addInk
   ink-wraps p h = rw (p, lt-ltb (s .width) (far v n) h)

@@ -3,3 +3,4 @@ pub mod Stopping
 pub mod Breaking
 pub mod Inking
 pub mod Walking
+pub mod Running

@@ -31,15 +31,15 @@ use Rattle.flush_word.specs.declared.state.State.{State}
 use Rattle.flush_word.specs.declared.state.Flushed.{Flushed}
 use Rattle.flush_word.specs.declared.state.Flushed.the-variants.{Done}
 use Rattle.flush_word.specs.declared.state.Flushed.the-variants as flushed
-use Rattle.add_text.specs.Walks.{RunSmall, Ready, WalkedSmall, WalkSmall, CharIs, RunIs, WalkKeeps, FirstIs, FirstSmall, Same}
-use Rattle.add_text.specs.Walks.{AddsNewline, AddsTab, AddsKept, AddsCollapsed, AddsInk, BreaksWord, AddsBlank, PutsChar, AddsChar, AddsFirst, AddsText}
+use Rattle.add_text.specs.Walks.{RunSmall, Ready, WalkedSmall, WalkSmall, CharIs, RunIs, WalkKeeps, NextWalk}
+use Rattle.add_text.specs.Walks.{AddsNewline, AddsTab, AddsKept, AddsCollapsed, AddsInk, BreaksWord, AddsBlank, PutsChar, AddsChar, AddsText}
+use Rattle.add_text.specs.Runs.{AddsPlain}
 use Rattle.add_text.specs.declared.walk.Run.{Run}
 use Rattle.add_text.specs.declared.walk.Walk.{Walk}
+use Rattle.add_text.specs.declared.runs.Past.{Past}
 use Rattle.add_text.specs.declared.walk.Walked.{Walked}
 use Rattle.add_text.specs.declared.walk.Walked.the-variants.{On}
 use Rattle.add_text.specs.declared.walk.Walked.the-variants as walked
-use Rattle.add_text.specs.declared.text.Step.{Step}
-use Rattle.add_text.specs.declared.text.Step.the-variants as stepped
 use Rattle.hard_wrap.proofs.Walks.{part-len}
 
 -- ---- numbers
@@ -170,7 +170,7 @@ module _ (s : Setup) (m : Mode) (main wrap c : ℕ) (v : flat.Walk) where
   char-none e = rw (eq-eqb c 0x200B e)
 
   -- a character of a word
-  char-ink : (c ≡ 0x200B → ⊥) → alwaysTakesSpace c ≡ true → addChar s m main wrap c v ≡ good (addInk s m wrap c (widthOf c) v)
+  pub char-ink : (c ≡ 0x200B → ⊥) → alwaysTakesSpace c ≡ true → addChar s m main wrap c v ≡ good (addInk s m wrap c (widthOf c) v)
   unfolding addChar
   char-ink h e = rw (ne-eqb c 0x200B h, e)
 
@@ -204,7 +204,7 @@ module _ (frame : Frame) (run : Run) (w : Walk) (code : ℕ) (lb lt wb wt out : 
 
 module _ (s : Setup) (m : Mode) (main wrap c : ℕ) (v : flat.Walk) where
   -- after the break point
-  step-on : (b : Block) → breakWord s m c (v .block) ≡ good b → step s m main wrap c v ≡ addChar s m main wrap c (walk b (v .ann))
+  pub step-on : (b : Block) → breakWord s m c (v .block) ≡ good b → step s m main wrap c v ≡ addChar s m main wrap c (walk b (v .ann))
   unfolding step
   step-on b e = rw e
 
@@ -249,40 +249,9 @@ module _ (text : List ℕ) (c k : ℕ) (e : decodeOf text ≡ Char c k) where
   pub first-is : CharIs (take k text) c
   first-is = record { scalar = decode-sound text c k e .0; bytes = decode-sound text c k e .1 }
 
-  -- There are units for them.
-  pub first-ready : {frame : Frame} {w : Walk} → WalkedSmall frame w (w .st .used) → w .st .used + length text ≤ 4096 → Ready frame w (length (take k text))
-  first-ready x h =
-      record {
-        small = x .small;
-        ann = x .ann;
-        some = omega (arith, first-length, decode-size text c k e .0);
-        units = omega (arith, first-length, decode-size text c k e .2);
-      }
-
-  module _ (frame : Frame) (r : Walked) where
-    -- The numbers after the character.
-    pub first-small : (used : ℕ) (w : Walk) → r ≡ On w → WalkSmall frame (used + length (take k text)) r → FirstSmall frame used (length text) (stepped.On w k)
-    first-small used w q x =
-        let y : WalkedSmall frame w (used + length (take k text)) = rw q at x in
-        (decode-size text c k e .0, decode-size text c k e .2, walked-more (omega (arith, first-length)) y)
-
-    module _ (run : Run) (w : Walk) (lb lt wb wt out lb′ lt′ wb′ wt′ out′ : List ℕ) (adds : AddsChar frame run w c lb lt wb wt out r lb′ lt′ wb′ wt′ out′) where
-      -- The first character of the text is walked.
-      pub first-on : (w′ : Walk) → r ≡ On w′ → AddsFirst frame run w text lb lt wb wt out (stepped.On w′ k) lb′ lt′ wb′ wt′ out′
-      first-on w′ q d₀ base v m main wrap cs o i t =
-          let (zs, ez, ex) = others c (chars (drop k text)) cs (sym (chars-step text c k e) ∙ t) in
-          record { c = c; rest = zs; whole = ex; left = ez; next = rw q at (adds d₀ base v m main wrap o i) }
-
-      -- There is no room for it.
-      pub first-narrow : r ≡ walked.Narrow → AddsFirst frame run w text lb lt wb wt out stepped.Narrow lb′ lt′ wb′ wt′ out′
-      first-narrow q d₀ base v m main wrap cs o i t =
-          let (zs, ez, ex) = others c (chars (drop k text)) cs (sym (chars-step text c k e) ∙ t) in
-          (c, zs, ex, rw q at (adds d₀ base v m main wrap o i))
-
--- The text has no first character.
-pub first-end : (frame : Frame) (run : Run) (w : Walk) (text lb lt wb wt out : List ℕ) → decodeOf text ≡ Bad
-    → AddsFirst frame run w text lb lt wb wt out stepped.End lb lt wb wt out
-first-end frame run w text lb lt wb wt out e d₀ base v m main wrap cs o i t = no-chars text cs e t
+-- the bytes between two places
+part-bytes : (text : List ℕ) (at k : ℕ) → take (at + k - at) (drop at text) ≡ take k (drop at text)
+part-bytes text at k = let e : at + k - at ≡ k = omega arith in rw e
 
 -- ---- the characters of a text
 
@@ -292,7 +261,7 @@ first main wrap b = if b .preWrapped then wrap else main
 
 module _ (s : Setup) (m : Mode) (main wrap : ℕ) where
   -- a step that is made
-  steps-on : (c : ℕ) (cs zs : List ℕ) (v v′ : flat.Walk) → cs ≡ c ∷ zs → step s m main wrap c v ≡ good v′ → steps s m main wrap cs v ≡ steps s m main wrap zs v′
+  pub steps-on : (c : ℕ) (cs zs : List ℕ) (v v′ : flat.Walk) → cs ≡ c ∷ zs → step s m main wrap c v ≡ good v′ → steps s m main wrap cs v ≡ steps s m main wrap zs v′
   unfolding steps
   steps-on c cs zs v v′ e q = rw (e, q)
 
@@ -367,73 +336,108 @@ walking-starts frame run text lb lt wb wt out start h r e =
           };
     }
 
--- A step forward stays inside the text.
-pub moved : (frame : Frame) (text : List ℕ) (at used : ℕ) (r : Step) (w : Walk) (n : ℕ) → at ≤ length text → r ≡ stepped.On w n
-    → FirstSmall frame used (length (take (length text - at) (drop at text))) r → (0 < n) × (at + n ≤ length text) × WalkedSmall frame w (used + n)
-moved frame text at used r w n h e x =
-    let y : (0 < n) × (n ≤ length (take (length text - at) (drop at text))) × WalkedSmall frame w (used + n) = rw e at x in
-    (y .0, omega (arith, y .1, part-len text at), y .2)
-
-module _ (frame : Frame) (run : Run) (text lb₀ lt₀ wb₀ wt₀ out₀ : List ℕ) (start : Walk) (lb lt wb wt out : List ℕ) (cur : Walk) (at : ℕ)
-    (inv : Walking frame run text lb₀ lt₀ wb₀ wt₀ out₀ start lb lt wb wt out cur at) (r : Step) (lb′ lt′ wb′ wt′ out′ : List ℕ)
-    (adds : AddsFirst frame run cur (take (length text - at) (drop at text)) lb lt wb wt out r lb′ lt′ wb′ wt′ out′) where
-  -- what is left to walk, for the step
+module _ {frame : Frame} {run : Run} {text lb₀ lt₀ wb₀ wt₀ out₀ : List ℕ} {start : Walk} {lb lt wb wt out : List ℕ} {cur : Walk} {at : ℕ}
+    (inv : Walking frame run text lb₀ lt₀ wb₀ wt₀ out₀ start lb lt wb wt out cur at) where
+  -- what is left to walk
   left-is : (zs : List ℕ) → chars (drop at text) ≡ some zs → chars (take (length text - at) (drop at text)) ≡ some zs
   left-is zs e = rw (rest text at) e
 
-  -- what is left after it
+  -- what is left after some of it
   left-on : (n : ℕ) (zs : List ℕ) → chars (drop n (take (length text - at) (drop at text))) ≡ some zs → chars (drop (at + n) text) ≡ some zs
   left-on n zs e = rw (rest text at, drop-drop) at e
 
-  -- A step is one of those left.
-  pub gone-on : (w : Walk) (n : ℕ) → r ≡ stepped.On w n → (d₀ : List ℕ) (base : ℕ) (b : Block) (m : Mode) (main wrap : ℕ) (cs : List ℕ)
-      → Keeps d₀ base b (start .st) lb₀ lt₀ wb₀ wt₀ out₀ → RunIs run m main wrap → chars text ≡ some cs
-      → Gone (setup frame) m main wrap cs b d₀ base text w (at + n) lb′ lt′ wb′ wt′ out′
-  gone-on w n e d₀ base b m main wrap cs k i t =
-      let g = inv .gone d₀ base b m main wrap cs k i t in
-      let x : FirstIs (λ c. step (setup frame) m main wrap c (g .v)) (take (length text - at) (drop at text)) d₀ base w n lb′ lt′ wb′ wt′ out′ (g .zs) =
-      rw e at (adds d₀ base (g .v) m main wrap (g .zs) (g .keeps) i (left-is (g .zs) (g .left))) in
+  -- Plain characters that are taken keep the invariant.
+  pub walking-past : (r : Past) (wb′ wt′ : List ℕ) → AddsPlain frame run cur (take (length text - at) (drop at text)) wb wt r wb′ wt′
+      → r .len ≤ length (take (length text - at) (drop at text)) → WalkedSmall frame (r .w) (cur .st .used + r .len)
+      → length wb′ ≡ length wb → length wt′ ≡ length wt → Walking frame run text lb₀ lt₀ wb₀ wt₀ out₀ start lb lt wb′ wt′ out (r .w) (at + r .len)
+  walking-past r wb′ wt′ adds h x y z =
       record {
-        v = x .next .walk;
-        zs = x .rest;
-        keeps = x .next .keeps;
-        left = left-on n (x .rest) (x .left);
-        same = g .same ∙ steps-on (setup frame) m main wrap (x .c) (g .zs) (x .rest) (g .v) (x .next .walk) (x .whole) (x .next .is);
-      }
-
-  -- A step keeps the invariant.
-  pub walking : (w : Walk) (n : ℕ) → r ≡ stepped.On w n → at + n ≤ length text → WalkedSmall frame w (cur .st .used + n)
-      → length lb′ ≡ length lb → length lt′ ≡ length lt → length wb′ ≡ length wb → length wt′ ≡ length wt → length out′ ≡ length out
-      → Walking frame run text lb₀ lt₀ wb₀ wt₀ out₀ start lb′ lt′ wb′ wt′ out′ w (at + n)
-  walking w n e h x p q y z o =
-      record {
-        inside = h;
+        inside = omega (arith, inv .inside, part-len text at);
         small = walked-more (omega (arith, inv .small .used)) x;
-        lb-same = p ∙ inv .lb-same;
-        lt-same = q ∙ inv .lt-same;
+        lb-same = inv .lb-same;
+        lt-same = inv .lt-same;
         wb-same = y ∙ inv .wb-same;
         wt-same = z ∙ inv .wt-same;
-        out-same = o ∙ inv .out-same;
-        gone = gone-on w n e;
+        out-same = inv .out-same;
+        gone = λ d₀ base b m main wrap cs k i t.
+            let g = inv .gone d₀ base b m main wrap cs k i t in
+            let p = adds d₀ base (g .v) m main wrap (g .zs) lb lt out (g .keeps) i (left-is (g .zs) (g .left)) in
+            record { v = p .next; zs = p .rest; keeps = p .keeps; left = left-on (r .len) (p .rest) (p .left); same = g .same ∙ p .same };
       }
 
-  -- Without room the text has none.
-  pub walking-narrow : r ≡ stepped.Narrow → AddsText frame run (start .st) text lb₀ lt₀ wb₀ wt₀ out₀ flushed.Narrow lb′ lt′ wb′ wt′ out′
-  walking-narrow e d₀ base b m main wrap cs k i t =
+  -- Where no character is left the walk is made.
+  pub walking-ends : decodeOf (take (length text - at) (drop at text)) ≡ Bad
+      → AddsText frame run (start .st) text lb₀ lt₀ wb₀ wt₀ out₀ (Done (cur .st)) lb lt wb wt out
+  walking-ends e d₀ base b m main wrap cs k i t =
       let g = inv .gone d₀ base b m main wrap cs k i t in
-      let x : (c : ℕ) × (zs : List ℕ) × (g .zs ≡ c ∷ zs) × (step (setup frame) m main wrap c (g .v) ≡ tooNarrow) =
-      rw e at (adds d₀ base (g .v) m main wrap (g .zs) (g .keeps) i (left-is (g .zs) (g .left))) in
-      text-narrow (setup frame) m main wrap cs b (g .same ∙ steps-narrow (setup frame) m main wrap (x .0) (g .zs) (x .1) (g .v) (x .2) (x .3))
-
-  -- At the end of the text the walk is made.
-  pub walking-ends : r ≡ stepped.End → Same r lb lt wb wt out lb′ lt′ wb′ wt′ out′
-      → AddsText frame run (start .st) text lb₀ lt₀ wb₀ wt₀ out₀ (Done (cur .st)) lb′ lt′ wb′ wt′ out′
-  walking-ends e u d₀ base b m main wrap cs k i t =
-      let g = inv .gone d₀ base b m main wrap cs k i t in
-      let x : g .zs ≡ [] = rw e at (adds d₀ base (g .v) m main wrap (g .zs) (g .keeps) i (left-is (g .zs) (g .left))) in
-      let y : (lb′ ≡ lb) × (lt′ ≡ lt) × (wb′ ≡ wb) × (wt′ ≡ wt) × (out′ ≡ out) = rw e at u in
+      let x = no-chars (take (length text - at) (drop at text)) (g .zs) e (left-is (g .zs) (g .left)) in
       record {
         block = g .v .block;
         is = text-good (setup frame) m main wrap cs b (g .v) (g .same ∙ steps-end (setup frame) m main wrap (g .zs) (g .v) x);
-        keeps = rw (y .0, y .1, y .2, y .3, y .4) (g .keeps .keeps);
+        keeps = g .keeps .keeps;
       }
+
+  module _ (c k : ℕ) (e : decodeOf (take (length text - at) (drop at text)) ≡ Char c k) where
+    -- The character's bytes lie inside the text.
+    pub char-inside : at + k ≤ length text
+    char-inside = let d = decode-size (take (length text - at) (drop at text)) c k e in let i = inv .inside in omega (arith, part-len text at, d .2)
+
+    -- There are some.
+    pub char-some : 0 < k
+    char-some = decode-size (take (length text - at) (drop at text)) c k e .0
+
+    -- They are as many as it says.
+    pub char-length : length (take (at + k - at) (drop at text)) ≡ k
+    char-length = rw (part-bytes text at k) (first-length (drop at text) c k (rw (rest text at) at e))
+
+    -- They are those of the character.
+    pub char-is : CharIs (take (at + k - at) (drop at text)) c
+    char-is = rw (part-bytes text at k) (first-is (drop at text) c k (rw (rest text at) at e))
+
+    -- There are units for them.
+    pub char-ready : start .st .used + length text ≤ 4096 → Ready frame cur (length (take (at + k - at) (drop at text)))
+    char-ready u =
+        record {
+          small = inv .small .small;
+          ann = inv .small .ann;
+          some = omega (arith, char-length, char-some);
+          units = omega (arith, char-length, char-inside, inv .small .used, u);
+        }
+
+    module _ (r : Walked) (lb′ lt′ wb′ wt′ out′ : List ℕ) (adds : AddsChar frame run cur c lb lt wb wt out r lb′ lt′ wb′ wt′ out′) where
+      -- A character that is walked keeps the invariant.
+      pub walking-on : (w : Walk) → r ≡ On w → WalkSmall frame (cur .st .used + length (take (at + k - at) (drop at text))) r
+          → length lb′ ≡ length lb → length lt′ ≡ length lt → length wb′ ≡ length wb → length wt′ ≡ length wt → length out′ ≡ length out
+          → Walking frame run text lb₀ lt₀ wb₀ wt₀ out₀ start lb′ lt′ wb′ wt′ out′ w (at + k)
+      walking-on w q x p₁ p₂ p₃ p₄ p₅ =
+          let y : WalkedSmall frame w (cur .st .used + length (take (at + k - at) (drop at text))) = rw q at x in
+          record {
+            inside = char-inside;
+            small = walked-more (omega (arith, char-length, inv .small .used)) y;
+            lb-same = p₁ ∙ inv .lb-same;
+            lt-same = p₂ ∙ inv .lt-same;
+            wb-same = p₃ ∙ inv .wb-same;
+            wt-same = p₄ ∙ inv .wt-same;
+            out-same = p₅ ∙ inv .out-same;
+            gone = λ d₀ base b m main wrap cs o i t.
+                let g = inv .gone d₀ base b m main wrap cs o i t in
+                let (zs, ez, ex) = others c (chars (drop k (take (length text - at) (drop at text)))) (g .zs)
+                (sym (chars-step (take (length text - at) (drop at text)) c k e) ∙ left-is (g .zs) (g .left)) in
+                let n : NextWalk (step (setup frame) m main wrap c (g .v)) d₀ base w lb′ lt′ wb′ wt′ out′ = rw q at (adds d₀ base (g .v) m main wrap (g .keeps) i) in
+                record {
+                  v = n .walk;
+                  zs = zs;
+                  keeps = n .keeps;
+                  left = left-on k zs ez;
+                  same = g .same ∙ steps-on (setup frame) m main wrap c (g .zs) zs (g .v) (n .walk) ex (n .is);
+                };
+          }
+
+      -- Without room for it the text has none.
+      pub walking-narrow : r ≡ walked.Narrow → AddsText frame run (start .st) text lb₀ lt₀ wb₀ wt₀ out₀ flushed.Narrow lb′ lt′ wb′ wt′ out′
+      walking-narrow q d₀ base b m main wrap cs o i t =
+          let g = inv .gone d₀ base b m main wrap cs o i t in
+          let (zs, ez, ex) = others c (chars (drop k (take (length text - at) (drop at text)))) (g .zs)
+          (sym (chars-step (take (length text - at) (drop at text)) c k e) ∙ left-is (g .zs) (g .left)) in
+          let n : step (setup frame) m main wrap c (g .v) ≡ tooNarrow = rw q at (adds d₀ base (g .v) m main wrap (g .keeps) i) in
+          text-narrow (setup frame) m main wrap cs b (g .same ∙ steps-narrow (setup frame) m main wrap c (g .zs) zs (g .v) ex n)

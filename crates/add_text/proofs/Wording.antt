@@ -10,25 +10,26 @@ use native.Mathlib.Omega.{arith}
 use borrow.Author.Tests.{eq-eqb, ne-eqb, lt-ltb, ltb-true}
 use lib.Dec.{ltb, leb, leb→le}
 use lib.ListN.{length}
-use Rattle.characters.specs.Columns.{columnsOf, widthOf, orZero, cols}
+use Rattle.characters.specs.Columns.{columnsOf, widthOf, orZero, cols, width}
 use Rattle.characters.specs.Whitespace.{alwaysTakesSpace}
-use Rattle.characters.specs.Utf8.{utf8, Scalar}
+use Rattle.characters.specs.Utf8.{utf8, textBytes, Scalar}
 use Rattle.characters.proofs.Tests.{by-if, below}
 use Rattle.characters.proofs.Tables.{dropped-is-white, white-columns, control-no-width, cols-le-two}
 use Rattle.block.specs.Tag.{Tag}
-use Rattle.block.specs.Flat.{char, name, Line, columns, hasText, pushChar, Block, withWord, withBlanks, keepBlank, collapse, addElement}
+use Rattle.block.specs.Flat.{char, name, Line, columns, hasText, pushChar, Block, withWord, withBlanks, withWrapped, keepBlank, collapse, addElement}
 use Rattle.block.specs.Neat.{Neat}
 use Rattle.block.proofs.Neats.{neat-blanks, neat-keep, neat-element, text-name}
-use Rattle.block.proofs.Width.{columns-append, columns-push}
+use Rattle.block.proofs.Width.{columns-append}
 use Rattle.lines.specs.Items.{Item, item, markTag, nameTag, items}
-use Rattle.lines.specs.Bridge.{num, tagged, enc, Valid}
-use Rattle.lines.proofs.Encoded.{enc-append, valid-append}
+use Rattle.lines.specs.Bridge.{num, tagged, enc, Valid, text}
+use Rattle.lines.proofs.Encoded.{enc-append, enc-text, valid-append, valid-text}
+use Rattle.lines.proofs.HardWrap.{columns-text}
 use Rattle.hard_wrap.specs.Hold.{Holds}
 use Rattle.hard_wrap.specs.declared.line.Frame.{Frame}
 use Rattle.hard_wrap.specs.declared.line.Open.{Open}
 use Rattle.flush_word.specs.Keep.{Keeps, Small}
 use Rattle.flush_word.specs.declared.state.State.{State}
-use Rattle.add_text.specs.Chars.{Fits, PushesWord, KeepsBlank, Collapses}
+use Rattle.add_text.specs.Chars.{Fits, PushesChars, PushesWord, KeepsBlank, Collapses}
 use Rattle.add_text.specs.Walks.{AddsElement}
 use Rattle.block.proofs.Same.{cols-of}
 
@@ -53,21 +54,15 @@ white-positive c n w e =
     ⊎-elim (λ k. let f : none ≡ some n = sym (control-no-width c k) ∙ e in absurd (let z : _≡_ {A = ℕ} 0 1 = cc in omega arith))
     (λ k. omega (arith, cols-of c n e)) (white-columns c (dropped-is-white c w))
 
--- ---- a word with one entry more
+-- ---- a word with more entries
 
-enc-push : (l : Line) (c : ℕ) (t : Tag) → enc (pushChar l c t) ≡ enc l ++ tagged (num t) (utf8 c)
-unfolding enc pushChar
-enc-push l c t = enc-append l (char c t ∷ []) ∙ ap (λ (x : List Item). enc l ++ x) (append-nil (tagged (num t) (utf8 c)))
-
-valid-push : (l : Line) (c : ℕ) (t : Tag) → Scalar c → t .ann < 256 → Valid l → Valid (pushChar l c t)
-unfolding pushChar
-valid-push l c t s a v = valid-append l (char c t ∷ []) v (s, a, tt)
-
-text-push : (l : Line) (c : ℕ) (t : Tag) → hasText (pushChar l c t) ≡ true
-unfolding hasText pushChar
-text-push [] c t = refl
-text-push (char d u ∷ l) c t = refl
-text-push (name n ∷ l) c t = text-push l c t
+-- a word with characters has text
+text-chars : (l : Line) (t : Tag) (cs : List ℕ) → 0 < length (textBytes cs) → hasText (l ++ text t cs) ≡ true
+unfolding hasText textBytes
+text-chars l t [] h = absurd (omega arith)
+text-chars [] t (c ∷ cs) h = refl
+text-chars (char d u ∷ l) t (c ∷ cs) h = refl
+text-chars (name n ∷ l) t (c ∷ cs) h = text-chars l t (c ∷ cs) h
 
 enc-name : (l : Line) (n : List ℕ) → enc (l ++ (name n ∷ [])) ≡ (enc l ++ (item 0 markTag ∷ [])) ++ tagged nameTag n
 unfolding enc
@@ -81,6 +76,10 @@ columns-name l n = let e : columns (l ++ (name n ∷ [])) ≡ columns l + 0 = co
 
 -- ---- the state with another word, and with other blanks
 
+abbrev pub withChars : State → ℕ → ℕ → Bool → ℕ → State
+withChars st n cols wrapped used =
+    record { line = st .line; word = record { n = n; cols = cols; text = true }; blanks = st .blanks; wrapped = wrapped; used = used }
+
 abbrev pub withEnd : State → ℕ → ℕ → Bool → ℕ → State
 withEnd st n cols text used =
     record { line = st .line; word = record { n = n; cols = cols; text = text }; blanks = st .blanks; wrapped = st .wrapped; used = used }
@@ -89,10 +88,10 @@ abbrev pub withPending : State → ℕ → ℕ → ℕ → State
 withPending st count tag used =
     record { line = st .line; word = st .word; blanks = record { count = count; tag = tag }; wrapped = st .wrapped; used = used }
 
--- The numbers after a character of a word.
-pub small-push : (frame : Frame) (st : State) (m cols n : ℕ) → n ≡ st .word .n + m → Small frame st → Fits st m cols
-    → Small frame (withEnd st n (st .word .cols + cols) true (st .used + m))
-small-push frame st m cols n e h f =
+-- The numbers after characters of a word.
+pub small-push : (frame : Frame) (st : State) (m cols n : ℕ) (wrapped : Bool) → n ≡ st .word .n + m → Small frame st → Fits st m cols
+    → Small frame (withChars st n (st .word .cols + cols) wrapped (st .used + m))
+small-push frame st m cols n wrapped e h f =
     record {
       used = f .units;
       word = omega arith;
@@ -150,22 +149,35 @@ keeps-same {d₀} {base} {x} {y} {st} {lb} {lt} {wb} {wt} {out} e h = subst (λ 
 
 -- ---- steps
 
--- A character's bytes are put at the word's end.
-pub pushes : (st : State) (part : List ℕ) (n tag : ℕ) (wb wt wb′ wt′ : List ℕ) (k used : ℕ)
+-- the line is held whatever the word and the flag
+holds-chars : {d₀ : List ℕ} {base : ℕ} {b : Block} {st : Open} {lb lt out : List ℕ} (w : Line) (p : Bool) → Holds d₀ base b st lb lt out
+    → Holds d₀ base (withWord w (withWrapped p b)) st lb lt out
+holds-chars w p o = record { line = o .line; valid = o .valid; cols = o .cols; store = o .store; place = o .place; lines = o .lines }
+
+-- The bytes of characters are put at the word's end.
+pub pushes : (st : State) (part : List ℕ) (n tag : ℕ) (wrapped : Bool) (wb wt wb′ wt′ : List ℕ) (k used : ℕ) → 0 < length part
     → items wb′ wt′ k ≡ items wb wt (st .word .n) ++ tagged tag part
-    → PushesWord st part n tag wb wt (withEnd st k (st .word .cols + n) true used) wb′ wt′
-pushes st part n tag wb wt wb′ wt′ k used e d₀ base b c t lb lt out h s p w ta ann nw =
+    → PushesChars st part n tag wrapped wb wt (withChars st k (st .word .cols + n) wrapped used) wb′ wt′
+pushes st part n tag wrapped wb wt wb′ wt′ k used pos e d₀ base b cs t lb lt out h s p w ta ann nw =
     record {
-      line = holds-word (pushChar (b .word) c t) (h .line);
-      word = e ∙ rw (h .word, ta, p) (sym (enc-push (b .word) c t));
-      valid = valid-push (b .word) c t s ann (h .valid);
-      cols = (let i = h .cols in omega (arith, columns-push (b .word) c t, cols-of c n w));
-      text = sym (text-push (b .word) c t);
+      line = holds-chars (b .word ++ text t cs) wrapped (h .line);
+      word = e ∙ rw (h .word, ta, p) (sym (enc-append (b .word) (text t cs) ∙ ap (λ (x : List Item). enc (b .word) ++ x) (enc-text t cs)));
+      valid = valid-append (b .word) (text t cs) (h .valid) (valid-text t cs ann s);
+      cols = (let i = h .cols in omega (arith, columns-append (b .word) (text t cs), columns-text t cs, w));
+      text = sym (text-chars (b .word) t cs (rw p at pos));
       count = h .count;
       pends = h .pends;
-      wrapped = h .wrapped;
+      wrapped = refl;
       neat = record { line = h .neat .line; word = nw };
     }
+
+-- One character is put so.
+pub pushes-one : (st : State) (part : List ℕ) (n tag : ℕ) (wb wt : List ℕ) (r : State) (wb′ wt′ : List ℕ)
+    → PushesChars st part n tag (st .wrapped) wb wt r wb′ wt′ → PushesWord st part n tag wb wt r wb′ wt′
+unfolding textBytes width pushChar
+pushes-one st part n tag wb wt r wb′ wt′ f d₀ base b c t lb lt out h s p w ta ann nw =
+    keeps-same (ap (λ (x : Bool). withWord (b .word ++ (char c t ∷ [])) (withWrapped x b)) (h .wrapped))
+    (f d₀ base b (c ∷ []) t lb lt out h (s, tt) (p ∙ sym (append-nil (utf8 c))) (omega (arith, cols-of c n w)) ta ann nw)
 
 -- A name's mark and bytes are put at the word's end.
 pub adds-name : (st : State) (n : List ℕ) (wb wt wb₁ wt₁ wb′ wt′ : List ℕ) (j k used : ℕ)

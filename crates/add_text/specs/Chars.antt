@@ -1,18 +1,19 @@
 -- The steps of single characters over the state and the lent buffers: LF, tab, a character of a word, blanks.
 -- Assumes nothing: these are definitions.
 use mathlib.Core.Path.{_≡_}
-use mathlib.Core.Bool.{false, _&&_}
+use mathlib.Core.Bool.{Bool, false, _&&_}
 use mathlib.Core.Option.{some}
-use mathlib.Core.List.{List}
+use mathlib.Core.List.{List, _++_}
 use Prim.Native.Nat.{ℕ, suc, _+_, _-_, _*_, _%_, _^_, _<_, _≤_}
 use lib.Dec.{eqb}
-use Rattle.characters.specs.Columns.{widthOf}
-use Rattle.characters.specs.Utf8.{utf8, Scalar}
+use Rattle.characters.specs.Columns.{widthOf, width}
+use Rattle.characters.specs.Utf8.{utf8, textBytes, Scalar}
+use Rattle.characters.proofs.RoundTrip.{Scalars}
 use Rattle.fields.specs.declared.job.Setup.{Setup}
 use Rattle.block.specs.Tag.{Tag}
-use Rattle.block.specs.Flat.{Block, pushChar, withWord, newline, tabLoop, tab, keepBlank, collapse}
+use Rattle.block.specs.Flat.{Block, pushChar, withWord, withWrapped, newline, tabLoop, tab, keepBlank, collapse}
 use Rattle.block.specs.Neat.{Neat, NeatWord}
-use Rattle.lines.specs.Bridge.{num}
+use Rattle.lines.specs.Bridge.{num, text}
 use Rattle.hard_wrap.specs.Hold.{setup, Holds}
 use Rattle.hard_wrap.specs.declared.line.Frame.{Frame}
 use Rattle.hard_wrap.specs.declared.line.Open.{Open}
@@ -84,13 +85,20 @@ Tabbing frame st tag lb lt out r lb′ lt′ out′ =
 
 -- ---- a character of a word, and blanks
 
--- a character of m bytes, which are among the units left, has no more columns than bytes
+-- characters of m bytes, which are among the units left, have no more columns than bytes
 pub record Fits (st : State) (m cols : ℕ) : Type 0 where
   pub some : 0 < m
-  pub two : cols ≤ 2
   pub bytes : cols ≤ m
   pub units : st .used + m ≤ 4096
 
+-- characters of one tag
+abbrev pub PushesChars : State → List ℕ → ℕ → ℕ → Bool → List ℕ → List ℕ → State → List ℕ → List ℕ → Type 0
+PushesChars st part n tag wrapped wb wt r wb′ wt′ =
+    (d₀ : List ℕ) (base : ℕ) (b : Block) (cs : List ℕ) (t : Tag) (lb lt out : List ℕ) → Keeps d₀ base b st lb lt wb wt out
+    → Scalars cs → part ≡ textBytes cs → n ≡ width cs → tag ≡ num t → t .ann < 256 → NeatWord (b .word ++ text t cs)
+    → Keeps d₀ base (withWord (b .word ++ text t cs) (withWrapped wrapped b)) r lb lt wb′ wt′ out
+
+-- one character
 abbrev pub PushesWord : State → List ℕ → ℕ → ℕ → List ℕ → List ℕ → State → List ℕ → List ℕ → Type 0
 PushesWord st part n tag wb wt r wb′ wt′ =
     (d₀ : List ℕ) (base : ℕ) (b : Block) (c : ℕ) (t : Tag) (lb lt out : List ℕ) → Keeps d₀ base b st lb lt wb wt out

@@ -27,8 +27,6 @@ use Rattle.add_text.specs.declared.walk.Walk.{Walk}
 use Rattle.add_text.specs.declared.walk.Walked.{Walked}
 use Rattle.add_text.specs.declared.walk.Walked.the-variants.{On}
 use Rattle.add_text.specs.declared.walk.Walked.the-variants as walked
-use Rattle.add_text.specs.declared.text.Step.{Step}
-use Rattle.add_text.specs.declared.text.Step.the-variants as stepped
 
 -- ---- numbers
 
@@ -149,37 +147,6 @@ AddsChar frame run w code lb lt wb wt out r lb′ lt′ wb′ wt′ out′ =
     Does (λ m main wrap c v. step (setup frame) m main wrap c v) run w code lb lt wb wt out r lb′ lt′ wb′ wt′ out′
 
 -- ---- a text
-
--- the numbers after the first character of a text of m bytes
-abbrev pub FirstSmall : Frame → ℕ → ℕ → Step → Type 0
-FirstSmall frame used m (stepped.On w len) = (0 < len) × (len ≤ m) × WalkedSmall frame w (used + len)
-FirstSmall frame used m stepped.Narrow = Unit {0}
-FirstSmall frame used m stepped.End = Unit {0}
-
--- the flat walk of the first character, and what is left of the text
-pub record FirstIs (f : ℕ → Result flat.Walk) (text : List ℕ) (d₀ : List ℕ) (base : ℕ) (w : Walk) (len : ℕ) (lb lt wb wt out : List ℕ) (cs : List ℕ) : Type 0 where
-  pub c : ℕ
-  pub rest : List ℕ
-  pub whole : cs ≡ c ∷ rest
-  pub left : chars (drop len text) ≡ some rest
-  pub next : NextWalk (f c) d₀ base w lb lt wb wt out
-
-abbrev pub StepIs : (ℕ → Result flat.Walk) → List ℕ → List ℕ → List ℕ → ℕ → Step → List ℕ → List ℕ → List ℕ → List ℕ → List ℕ → Type 0
-StepIs f text cs d₀ base (stepped.On w len) lb lt wb wt out = FirstIs f text d₀ base w len lb lt wb wt out cs
-StepIs f text cs d₀ base stepped.Narrow lb lt wb wt out = (c : ℕ) × (rest : List ℕ) × (cs ≡ c ∷ rest) × (f c ≡ tooNarrow)
-StepIs f text cs d₀ base stepped.End lb lt wb wt out = cs ≡ []
-
--- what did not change, where nothing was walked
-abbrev pub Same : Step → List ℕ → List ℕ → List ℕ → List ℕ → List ℕ → List ℕ → List ℕ → List ℕ → List ℕ → List ℕ → Type 0
-Same (stepped.On w len) lb lt wb wt out lb′ lt′ wb′ wt′ out′ = Unit {0}
-Same stepped.Narrow lb lt wb wt out lb′ lt′ wb′ wt′ out′ = Unit {0}
-Same stepped.End lb lt wb wt out lb′ lt′ wb′ wt′ out′ = (lb′ ≡ lb) × (lt′ ≡ lt) × (wb′ ≡ wb) × (wt′ ≡ wt) × (out′ ≡ out)
-
--- the first character of a text
-abbrev pub AddsFirst : Frame → Run → Walk → List ℕ → List ℕ → List ℕ → List ℕ → List ℕ → List ℕ → Step → List ℕ → List ℕ → List ℕ → List ℕ → List ℕ → Type 0
-AddsFirst frame run w text lb lt wb wt out r lb′ lt′ wb′ wt′ out′ =
-    (d₀ : List ℕ) (base : ℕ) (v : flat.Walk) (m : Mode) (main wrap : ℕ) (cs : List ℕ) → WalkKeeps d₀ base v w lb lt wb wt out → RunIs run m main wrap
-    → chars text ≡ some cs → StepIs (λ c. step (setup frame) m main wrap c v) text cs d₀ base r lb′ lt′ wb′ wt′ out′
 
 -- the numbers after a text
 abbrev pub TextSmall : Frame → ℕ → Flushed → Type 0

@@ -8,7 +8,41 @@ ghost use mathlib.Core.Path.{_≡_};
 ghost use Prim.Native.Nat.{_+_, _<_, _≤_};
 ghost use lib.ListN.{length};
 ghost use Rattle.flush_word.specs.Keep.{Small, Lent};
-ghost use Rattle.add_text.specs.Chars.{Fits, PushesWord, KeepsBlank, Collapses};
+ghost use Rattle.add_text.specs.Chars.{Fits, PushesChars, PushesWord, KeepsBlank, Collapses};
+
+// Characters of one tag after the word's (`push_char` for each of them); `pre_wrapped` is as said.
+pub fn push_chars(
+    frame: Frame,
+    st: State,
+    wb: &mut [u8],
+    wt: &mut [u32],
+    part: &[u8],
+    cols: usize,
+    tag: u32,
+    wrapped: bool,
+) -> State
+    requires { ⌜ Small frame st × Lent frame 4608 4608 (length (now wb)) (length (now wt)) ⌝ }
+    requires { ⌜ Fits st (length (now part)) cols ⌝ }
+    ensures { λ r. ⌜ Small frame r × (r .used ≡ st .used + length (now (part .entry))) ⌝ }
+    ensures { λ r. ⌜ PushesChars st (now (part .entry)) cols tag wrapped (now (wb .entry)) (now (wt .entry)) r (now (wb .exit)) (now (wt .exit)) ⌝ }
+{
+    let line = st.line;
+    let word = st.word;
+    let blanks = st.blanks;
+    let n = push_text(wb, wt, word.n, part, tag);
+    let longer = Word {
+        n,
+        cols: word.cols + cols,
+        text: true,
+    };
+    State {
+        line,
+        word: longer,
+        blanks,
+        wrapped,
+        used: st.used + part.len(),
+    }
+}
 
 // A character after the word's (`push_char`).
 pub fn push_word(
@@ -25,22 +59,7 @@ pub fn push_word(
     ensures { λ r. ⌜ Small frame r × (r .used ≡ st .used + length (now (part .entry))) ⌝ }
     ensures { λ r. ⌜ PushesWord st (now (part .entry)) cols tag (now (wb .entry)) (now (wt .entry)) r (now (wb .exit)) (now (wt .exit)) ⌝ }
 {
-    let line = st.line;
-    let word = st.word;
-    let blanks = st.blanks;
-    let n = push_text(wb, wt, word.n, part, tag);
-    let longer = Word {
-        n,
-        cols: word.cols + cols,
-        text: true,
-    };
-    State {
-        line,
-        word: longer,
-        blanks,
-        wrapped: st.wrapped,
-        used: st.used + part.len(),
-    }
+    push_chars(frame, st, wb, wt, part, cols, tag, st.wrapped)
 }
 
 // A blank where white space is kept: it joins a word that has text, and else it pends.

@@ -1,4 +1,5 @@
 // `add_text` and `add_element`.
+use crate::runs::add_plain;
 use crate::walk::Run;
 use crate::walk::Walk;
 use crate::walk::Walked;
@@ -18,7 +19,7 @@ ghost use Prim.Native.Nat.{_+_, _<_, _≤_};
 ghost use lib.ListN.{length};
 ghost use Rattle.characters.specs.If.{if_then_else_};
 ghost use Rattle.flush_word.specs.Keep.{Small, Lent};
-ghost use Rattle.add_text.specs.Walks.{RunSmall, WalkedSmall, FirstSmall, AddsFirst, Same, TextSmall, AddsText, AddsElement};
+ghost use Rattle.add_text.specs.Walks.{RunSmall, TextSmall, AddsText, AddsElement};
 
 // The annotation that a text begins with: the continued one while a wrap of Pre text stands.
 fn first_annotation(run: Run, wrapped: bool) -> u32
@@ -30,49 +31,7 @@ fn first_annotation(run: Run, wrapped: bool) -> u32
     run.main
 }
 
-// What a step over one character comes to.
-pub enum Step {
-    On { w: Walk, len: usize },
-    Narrow,
-    End,
-}
-
-// The character at the front of a text, walked.
-fn add_first(
-    frame: Frame,
-    run: Run,
-    w: Walk,
-    text: &[u8],
-    lb: &mut [u8],
-    lt: &mut [u32],
-    wb: &mut [u8],
-    wt: &mut [u32],
-    out: &mut [u8],
-) -> Step
-    requires { ⌜ WalkedSmall frame w (w .st .used) × Lent frame (length (now lb)) (length (now lt)) (length (now wb)) (length (now wt)) ⌝ }
-    requires { ⌜ RunSmall run × (w .st .used + length (now text) ≤ 4096) ⌝ }
-    ensures { λ r. ⌜ FirstSmall frame (w .st .used) (length (now (text .entry))) r ⌝ }
-    ensures { λ r. ⌜ AddsFirst frame run w (now (text .entry))
-        (now (lb .entry)) (now (lt .entry)) (now (wb .entry)) (now (wt .entry)) (now (out .entry)) r
-        (now (lb .exit)) (now (lt .exit)) (now (wb .exit)) (now (wt .exit)) (now (out .exit)) ⌝ }
-    ensures { λ r. ⌜ Same r
-        (now (lb .entry)) (now (lt .entry)) (now (wb .entry)) (now (wt .entry)) (now (out .entry))
-        (now (lb .exit)) (now (lt .exit)) (now (wb .exit)) (now (wt .exit)) (now (out .exit)) ⌝ }
-{
-    let d = decode(text);
-    match d {
-        Decoded::Char { code, len } => {
-            let done = add_char(frame, run, w, code, &text[..len], lb, lt, wb, wt, out);
-            match done {
-                Walked::On(on) => Step::On { w: on, len },
-                Walked::Narrow => Step::Narrow,
-            }
-        }
-        Decoded::Bad => Step::End,
-    }
-}
-
-// `add_text`: the text of a T field, one character after the other.
+// `add_text`: the text of a T field, run by run of plain characters and one character after each.
 pub fn add_text(
     frame: Frame,
     run: Run,
@@ -97,16 +56,26 @@ pub fn add_text(
     };
     let mut at: usize = 0;
     loop {
-        let step = add_first(frame, run, cur, &text[at..], lb, lt, wb, wt, out);
-        match step {
-            Step::On { w, len } => {
-                cur = w;
-                at += len;
+        let past = add_plain(frame, run, cur, &text[at..], wb, wt);
+        cur = past.w;
+        at += past.len;
+        let d = decode(&text[at..]);
+        match d {
+            Decoded::Char { code, len } => {
+                let end = at + len;
+                let part = &text[at..end];
+                let done = add_char(frame, run, cur, code, part, lb, lt, wb, wt, out);
+                match done {
+                    Walked::On(w) => {
+                        cur = w;
+                        at = end;
+                    }
+                    Walked::Narrow => {
+                        return Flushed::Narrow;
+                    }
+                }
             }
-            Step::Narrow => {
-                return Flushed::Narrow;
-            }
-            Step::End => {
+            Decoded::Bad => {
                 let last = cur.st;
                 return Flushed::Done(last);
             }

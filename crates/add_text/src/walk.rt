@@ -43,7 +43,7 @@ pub enum Walked {
 }
 
 // Annotation and mode in one number.
-fn tag_of(ann: u32, mode: u32) -> u32
+pub fn tag_of(ann: u32, mode: u32) -> u32
     requires { ⌜ (ann < 256) × (mode < 3) ⌝ }
     ensures { λ r. ⌜ r ≡ ann + 65536 * mode ⌝ }
 {

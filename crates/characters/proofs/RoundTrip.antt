@@ -8,7 +8,7 @@ use mathlib.Core.Option.{Option, none, some, Option·map}
 use Prim.Native.Nat.{ℕ, zero, suc, _+_, _-_, _*_, _/_, _%_, _<_, _≤_}
 use native.Mathlib.Omega.{arith}
 use lib.Dec.{ltb, leb, lit<, lit≤}
-use lib.ListN.{length, take, drop, length-take, take-append-drop}
+use lib.ListN.{length, take, drop, getD, length-take, take-append-drop}
 use lib.Seq.{drop-append-seam}
 use borrow.Author.Tests.{leb-true}
 use Rattle.characters.specs.Ranges.{within, lookup}
@@ -16,7 +16,7 @@ use Rattle.characters.specs.Utf8.{Place, Step, Lead, table-3-7, led, fir
 use Rattle.characters.specs.Utf8.Place.{fresh, inside}
 use Rattle.characters.specs.Utf8.Step.{bad, on, ends}
 use Rattle.characters.specs.Utf8.Lead.{alone, leads, never}
-use Rattle.characters.specs.Forms.{lenOf}
+use Rattle.characters.specs.Forms.{lenOf, inRange, secondFrom, secondTo, three}
 use Rattle.characters.specs.declared.utf8.Decoded.{Decoded}
 use Rattle.characters.specs.declared.utf8.Decoded.the-variants.{Char, Bad}
 use Rattle.characters.proofs.Tests.{by-if, and-right, lt-or-le}
@@ -115,9 +115,35 @@ decode-complete c (s, top) rest =
     (lt-or-le c 0x800))
     (lt-or-le c 0x80)
 
--- bytes that are decoded are those of the character, and the rest
-split : (s : List ℕ) (c k : ℕ) → decodeOf s ≡ Char c k → s ≡ utf8 c ++ drop k s
+-- Bytes that are decoded are those of the character, and the rest.
+pub split : (s : List ℕ) (c k : ℕ) → decodeOf s ≡ Char c k → s ≡ utf8 c ++ drop k s
 split s c k e = sym (take-append-drop k s) ∙ ap (λ (l : List ℕ). l ++ drop k s) (decode-sound s c k e .1)
+
+-- A first byte below 80 is the character.
+pub decode-ascii : (s : List ℕ) → 0 < length s → getD s 0 0 < 0x80 → decodeOf s ≡ Char (getD s 0 0) 1
+unfolding byLen
+decode-ascii s p h = by-first 1 s (sym (len-one (getD s 0 0) h)) p (omega arith)
+
+-- Nothing starts an empty list.
+pub decode-empty : (s : List ℕ) → length s ≡ 0 → decodeOf s ≡ Bad
+unfolding decodeOf firstFrom
+decode-empty [] e = refl
+decode-empty (b ∷ s) e = absurd (omega arith)
+
+-- the form of three bytes gives no other length
+three-len : (a b c x k : ℕ) → three a b c ≡ Char x k → k ≡ 3
+unfolding three
+three-len a b c x k =
+    by-if (λ (d : Decoded). d ≡ Char x k → k ≡ 3) (inRange (secondFrom a) (secondTo a) b && inRange 0x80 0xBF c)
+    (λ _ e. cc)
+    (λ _ e. absurd (let z : _≡_ {A = ℕ} 0 1 = cc in omega arith))
+
+-- A first byte that says three bytes: these three, where they are accepted.
+pub decode-three : (s : List ℕ) → 3 ≤ length s → 0xE0 ≤ getD s 0 0 → getD s 0 0 < 0xF0
+    → (x k : ℕ) → three (getD s 0 0) (getD s 1 0) (getD s 2 0) ≡ Char x k → decodeOf s ≡ Char x 3
+unfolding byLen
+decode-three s l p q x k e =
+    by-first 3 s (sym (len-three (getD s 0 0) p q)) (omega arith) l ∙ e ∙ ap (Char x) (three-len _ _ _ x k e)
 
 -- where no encoding stands at the start, decoding answers Bad
 refused : (s : List ℕ) → ((c : ℕ) (rest : List ℕ) → Scalar c → s ≡ utf8 c ++ rest → ⊥) → (d : Decoded) → decodeOf s ≡ d → d ≡ Bad

@@ -3,7 +3,7 @@
 use mathlib.Core.Path.{_≡_, refl, sym, ap, _∙_}
 use mathlib.Core.Bool.{Bool, true, false, _&&_, _||_}
 use mathlib.Core.Option.{Option, none, some, Option·map}
-use mathlib.Core.List.{List, [], _∷_}
+use mathlib.Core.List.{List, [], _∷_, _++_}
 use Prim.Native.Nat.{ℕ, _+_, _-_, _≤_, _<_}
 use native.Mathlib.Nat.{le-of-eq}
 use native.Mathlib.Omega.{arith}
@@ -15,6 +15,9 @@ use Rattle.characters.specs.Utf8.{decodeOf, chars}
 use Rattle.characters.specs.declared.utf8.Decoded.{Decoded}
 use Rattle.characters.specs.declared.utf8.Decoded.the-variants.{Char, Bad}
 use Rattle.characters.proofs.Tests.{or-true}
+use Rattle.characters.specs.Plain.{isPlain, AllPlain, PlainRun}
+use Rattle.characters.proofs.Tables.{plain-on-list, plain-no-control}
+use Rattle.characters.proofs.Runs.{run-chars}
 use Rattle.characters.proofs.RoundTrip.{chars-nil, chars-step, chars-bad}
 use Rattle.fields.specs.Field.{all}
 use Rattle.fields.specs.Text.{allowedIn, holds, readableText, TextStep}
@@ -37,6 +40,11 @@ cols-allowed k c n e = rw e (or-true k)
 pub off-list : (k : Bool) (c : ℕ) → columnsOf c ≡ OffList → allowedIn k c ≡ false
 unfolding allowedIn onList
 off-list k c e = rw e
+
+-- A plain character is allowed in every text.
+plain-allowed : (b k : Bool) (c : ℕ) → isPlain b c ≡ true → allowedIn k c ≡ true
+unfolding allowedIn
+plain-allowed b k c e = rw (plain-on-list b c e, plain-no-control b c e) (or-true k)
 
 -- ---- a text
 
@@ -76,6 +84,23 @@ pub text-bad : (k : Bool) (s : List ℕ) → 0 < length s → decodeOf s ≡ Bad
 unfolding readableText
 text-bad k s h e = ap (holds (allowedIn k)) (chars-bad s h e)
 
+-- plain characters in front change nothing of a test of each
+all-plain : (b k : Bool) (cs l : List ℕ) → AllPlain b cs → all (allowedIn k) (cs ++ l) ≡ all (allowedIn k) l
+unfolding all
+all-plain b k [] l h = refl
+all-plain b k (c ∷ cs) l h = rw (plain-allowed b k c (h .0)) (all-plain b k cs l (h .1))
+
+-- the same where there may be no text
+holds-plain : (b k : Bool) (cs : List ℕ) (o : Option (List ℕ)) → AllPlain b cs
+    → holds (allowedIn k) (Option·map (λ (l : List ℕ). cs ++ l) o) ≡ holds (allowedIn k) o
+holds-plain b k cs none h = refl
+holds-plain b k cs (some l) h = all-plain b k cs l h
+
+-- a text is as good as what follows the plain characters that it starts with
+pub text-run : (b k : Bool) (s : List ℕ) (len cols : ℕ) → PlainRun b s len cols → readableText k s ≡ readableText k (drop len s)
+unfolding readableText
+text-run b k s len cols r = ap (holds (allowedIn k)) (run-chars r) ∙ holds-plain b k (r .cs) (chars (drop len s)) (r .plain)
+
 -- ---- a walk over the characters of s: from the place on, the text is as good as the whole
 
 -- what the borrow checker says of a part `&s[at..]`
@@ -84,6 +109,14 @@ rest s at = take-all (length s - at) (drop at s) (le-of-eq (length-drop at s))
 
 abbrev pub Left : Bool → List ℕ → ℕ → Type 0
 Left k s at = (at ≤ length s) × (readableText k (drop at s) ≡ readableText k s)
+
+-- past a run of plain characters
+pub past-run : (b k : Bool) (s : List ℕ) (at len cols : ℕ) → Left k s at → len ≤ length (take (length s - at) (drop at s))
+    → PlainRun b (take (length s - at) (drop at s)) len cols → Left k s (at + len)
+past-run b k s at len cols inv n r =
+    let h : len ≤ length s - at = rw (rest s at, length-drop) at n in
+    let e = text-run b k (drop at s) len cols (rw (rest s at) at r) in
+    (omega arith, sym (rw drop-drop at e) ∙ inv .1)
 
 abbrev pub Onward : Bool → List ℕ → ℕ → ℕ → Type 0
 Onward k s at n = (0 < n) × (at + n ≤ length s) × (readableText k (drop (at + n) s) ≡ readableText k s)

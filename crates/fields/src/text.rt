@@ -3,6 +3,7 @@ ghost use mathlib.Core.Path.{_≡_};
 ghost use Rattle.fields.specs.Text.{TextStep, allowedIn, readableText};
 use characters::columns::Columns;
 use characters::columns::columns_of;
+use characters::plain::plain_run;
 use characters::utf8::Decoded;
 use characters::utf8::decode;
 
@@ -49,6 +50,8 @@ pub fn readable(s: &[u8], controls: bool) -> bool
 {
     let mut at: usize = 0;
     loop {
+        let run = plain_run(&s[at..], true);
+        at += run.len;
         let step = text_step(&s[at..], controls);
         match step {
             Step::On(k) => {

@@ -11,13 +11,13 @@ use native.Mathlib.Numerals.{add-one}
 use borrow.Author.Tests.{le-leb, lt-leb, lt-ltb, le-ltb}
 use lib.ListN.{length, take, drop, getD, drop-of-length-le}
 use lib.Seq.{drop-cons, length-take-le}
-use Rattle.characters.specs.Columns.{columnsOf, widthOf, cols}
+use Rattle.characters.specs.Columns.{columnsOf, widthOf, cols, width}
 use Rattle.characters.specs.Utf8.{utf8, textBytes}
 use Rattle.fields.specs.declared.job.Setup.{Setup}
 use Rattle.block.specs.Tag.{Tag}
 use Rattle.block.specs.Flat.{Line, char, name, Block, hasText, columns, pushChar, onLine, flushLine, forceFlushLine, writeBlank, writeBlanks}
 use Rattle.lines.specs.Items.{Item, item, items, zip, tagOf, markTag, nameTag}
-use Rattle.lines.specs.Bridge.{num, tagged, enc, Valid, width}
+use Rattle.lines.specs.Bridge.{num, tagged, enc, Valid}
 use Rattle.lines.proofs.Buffers.{items-none, items-length}
 use Rattle.lines.proofs.Encoded.{utf8-some, enc-none}
 use Rattle.hard_wrap.specs.Hold.{setup, Holds}

@@ -6,6 +6,7 @@ use mathlib.Core.List.{List, [], _∷_, _++_, map, append-nil}
 use Prim.Native.Nat.{ℕ, _+_, _-_, _<_, _≤_}
 use native.Mathlib.Omega.{arith}
 use lib.ListN.{replicate, length-append}
+use Rattle.characters.specs.Columns.{width}
 use Rattle.characters.specs.If.{if_then_else_}
 use Rattle.characters.specs.Utf8.{textBytes}
 use Rattle.characters.proofs.RoundTrip.{Scalars}
@@ -17,7 +18,7 @@ use Rattle.block.specs.Tag.{Tag, tag}
 use Rattle.block.specs.Flat.{Line, Block, columns, spaces, padTo, finished, forceFlushLine, withLine, sheetLine}
 use Rattle.lines.specs.Items.{Item, item, items}
 use Rattle.lines.specs.Encode.{lineField}
-use Rattle.lines.specs.Bridge.{num, tagged, enc, Valid, text, width}
+use Rattle.lines.specs.Bridge.{num, tagged, enc, Valid, text}
 use Rattle.lines.proofs.Buffers.{items-none}
 use Rattle.lines.proofs.Encoded.{enc-append, enc-text, enc-spaces, valid-append, valid-text, valid-spaces, lines-snoc}
 use Rattle.lines.proofs.HardWrap.{columns-text}

@@ -7,14 +7,16 @@ use Prim.Native.Nat.{ℕ, _+_, _-_, _*_, _<_, _≤_, min}
 use native.Mathlib.Omega.{arith}
 use lib.ListN.{length, drop, length-drop}
 use lib.Seq.{drop-drop}
+use Rattle.characters.specs.Columns.{width}
 use Rattle.characters.specs.Utf8.{textBytes}
 use Rattle.characters.proofs.RoundTrip.{Scalars}
 use Rattle.fields.specs.declared.job.Setup.{Setup}
 use Rattle.block.specs.Tag.{Tag}
 use Rattle.block.specs.Flat.{Line, Block, withLine, hardWrap}
-use Rattle.lines.specs.Bridge.{num, text, width}
+use Rattle.characters.proofs.Runs.{width-append}
+use Rattle.lines.specs.Bridge.{num, text}
 use Rattle.lines.proofs.Encoded.{scalars-right}
-use Rattle.lines.proofs.HardWrap.{width-append, piece-fits}
+use Rattle.lines.proofs.HardWrap.{piece-fits}
 use Rattle.hard_wrap.specs.Hold.{setup, Holds, Stepped, Pieced}
 use Rattle.hard_wrap.specs.declared.line.Frame.{Frame}
 use Rattle.hard_wrap.specs.declared.line.Open.{Open}

@@ -10,14 +10,15 @@ use lib.ListN.{length, take, drop, length-append}
 use lib.Seq.{take-append-seam, drop-append-seam}
 use Rattle.characters.specs.If.{if_then_else_}
 use Rattle.characters.specs.Utf8.{utf8, textBytes}
-use Rattle.characters.specs.Columns.{cols}
+use Rattle.characters.specs.Columns.{cols, width}
 use Rattle.characters.proofs.RoundTrip.{Scalars}
 use Rattle.block.specs.Tag.{Tag}
 use Rattle.block.specs.Result.{Result, tooNarrow}
 use Rattle.block.specs.Flat.{Line, Block, columns, withLine, forceFlushLine, hardWrap}
-use Rattle.lines.specs.Bridge.{num, text, width}
-use Rattle.lines.proofs.Encoded.{textBytes-append, scalars-left, utf8-pos}
-use Rattle.lines.proofs.HardWrap.{width-append, splits, too-wide}
+use Rattle.characters.proofs.Runs.{textBytes-append, width-append}
+use Rattle.lines.specs.Bridge.{num, text}
+use Rattle.lines.proofs.Encoded.{scalars-left, utf8-pos}
+use Rattle.lines.proofs.HardWrap.{splits, too-wide}
 use Rattle.hard_wrap.specs.Walk.{Shows, Split}
 use Rattle.hard_wrap.specs.Hold.{setup, Holds, Ends, Stepped}
 use Rattle.hard_wrap.specs.declared.line.Frame.{Frame}

@@ -1,18 +1,19 @@
 -- The walk over a text: turns over plain lists.
 -- Assumes nothing.
 use mathlib.Core.Path.{_≡_, refl, sym, ap, _∙_}
+use mathlib.Core.Bool.{true}
 use mathlib.Core.List.{List, [], _∷_, _++_, append-nil, append-assoc}
 use Prim.Native.Nat.{ℕ, _+_, _-_, _<_, _≤_}
 use native.Mathlib.Nat.{le-of-eq}
 use native.Mathlib.Omega.{arith}
-use lib.ListN.{length, take, drop, length-append, length-drop}
+use lib.ListN.{length, take, drop, length-append, length-drop, take-append-drop}
 use lib.Seq.{drop-drop, take-all, drop-append-seam}
 use Rattle.characters.specs.Utf8.{utf8, textBytes}
-use Rattle.characters.specs.Columns.{cols}
+use Rattle.characters.specs.Columns.{cols, width}
+use Rattle.characters.specs.Plain.{PlainRun}
 use Rattle.characters.proofs.RoundTrip.{Scalars}
-use Rattle.lines.specs.Bridge.{width}
-use Rattle.lines.proofs.Encoded.{textBytes-append, scalars-right, utf8-pos}
-use Rattle.lines.proofs.HardWrap.{width-append}
+use Rattle.characters.proofs.Runs.{textBytes-append, width-append, plain-scalars, text-front}
+use Rattle.lines.proofs.Encoded.{scalars-right, utf8-pos}
 use Rattle.hard_wrap.specs.Walk.{Shows, Going, Split}
 use Rattle.fields.proofs.Texts.{rest}
 
@@ -32,21 +33,40 @@ module _ (part cs : List ℕ) where
   unfolding textBytes width
   going-start e = record { p = []; q = cs; whole = refl; rest = e; at = refl; cols = refl }
 
-  -- what is left, one character further
-  on-record : (p : List ℕ) (c : ℕ) (q : List ℕ) (i used len k : ℕ) → cs ≡ p ++ (c ∷ q) → drop i part ≡ utf8 c ++ textBytes q → i ≡ length (textBytes p) → used ≡ width p
-      → len ≡ length (utf8 c) → k ≡ cols c → Going part cs (i + len) (used + k)
-  unfolding textBytes width
-  on-record p c q i used len k w r a u e f =
-      let l : textBytes (p ++ (c ∷ [])) ≡ textBytes p ++ utf8 c = textBytes-append p (c ∷ []) ∙ rw append-nil in
-      let bytes : i + len ≡ length (textBytes (p ++ (c ∷ []))) = rw l (omega (arith, length-append (textBytes p) (utf8 c))) in
+  -- what is left, some characters further
+  on-more : (p r q : List ℕ) (i used len k : ℕ) → cs ≡ p ++ (r ++ q) → drop i part ≡ textBytes r ++ textBytes q
+      → i ≡ length (textBytes p) → used ≡ width p → len ≡ length (textBytes r) → k ≡ width r → Going part cs (i + len) (used + k)
+  on-more p r q i used len k w d a u e f =
+      let l : textBytes (p ++ r) ≡ textBytes p ++ textBytes r = textBytes-append p r in
       record {
-        p = p ++ (c ∷ []);
+        p = p ++ r;
         q = q;
-        whole = w ∙ sym (append-assoc p (c ∷ []) q);
-        rest = sym (drop-drop len i part) ∙ ap (drop len) r ∙ ap (λ (n : ℕ). drop n (utf8 c ++ textBytes q)) e ∙ drop-append-seam (utf8 c) (textBytes q);
-        at = bytes;
-        cols = (let m : width (p ++ (c ∷ [])) ≡ width p + (cols c + 0) = width-append p (c ∷ []) in omega arith);
+        whole = w ∙ sym (append-assoc p r q);
+        rest = sym (drop-drop len i part) ∙ rw (d, e) (drop-append-seam (textBytes r) (textBytes q));
+        at = rw l (omega (arith, length-append (textBytes p) (textBytes r)));
+        cols = (let m : width (p ++ r) ≡ width p + width r = width-append p r in omega arith);
       }
+
+  -- what is left, one character further
+  on-record : (p : List ℕ) (c : ℕ) (q : List ℕ) (i used len k : ℕ) → cs ≡ p ++ (c ∷ q) → drop i part ≡ utf8 c ++ textBytes q
+      → i ≡ length (textBytes p) → used ≡ width p → len ≡ length (utf8 c) → k ≡ cols c → Going part cs (i + len) (used + k)
+  unfolding textBytes width
+  on-record p c q i used len k w d a u e f =
+      let l : textBytes (c ∷ []) ≡ utf8 c = append-nil (utf8 c) in
+      on-more p (c ∷ []) q i used len k w (rw l d) a u (rw l e) (omega arith)
+
+  -- a run of plain characters further, which stands in the next m bytes
+  pub going-run : (i used len k m : ℕ) → Scalars cs → PlainRun true (take m (drop i part)) len k → Going part cs i used
+      → Going part cs (i + len) (used + k)
+  going-run i used len k m s r o =
+      let v : Scalars (o .q) = scalars-right (o .p) (o .q) (rw (o .whole) at s) in
+      let b : List ℕ = drop m (drop i part) in
+      let e : drop i part ≡ textBytes (r .cs) ++ (r .rest ++ b) =
+      sym (take-append-drop m (drop i part)) ∙ ap (λ (l : List ℕ). l ++ b) (r .whole) ∙ append-assoc (textBytes (r .cs)) (r .rest) b in
+      let z = text-front (o .q) (r .cs) (r .rest ++ b) v (plain-scalars true (r .cs) (r .plain)) (sym (o .rest) ∙ e) in
+      let w : cs ≡ o .p ++ (r .cs ++ z .left) = o .whole ∙ ap (λ (x : List ℕ). o .p ++ x) (z .whole) in
+      let d : drop i part ≡ textBytes (r .cs) ++ textBytes (z .left) = o .rest ∙ ap textBytes (z .whole) ∙ textBytes-append (r .cs) (z .left) in
+      on-more (o .p) (r .cs) (z .left) i used len k w d (o .at) (o .cols) (r .bytes) (r .columns)
 
   module _ (i used len k : ℕ) (s : Scalars cs) (h : i < length part) (g : Shows (drop i part) len k) where
     -- one character further

@@ -6,6 +6,7 @@ use mathlib.Core.List.{List, _++_, map}
 use Prim.Native.Nat.{ℕ, _+_, _-_, _*_, _^_, _<_, _≤_, min}
 use lib.ListN.{length, replicate}
 use lib.Seq.{sets}
+use Rattle.characters.specs.Columns.{width}
 use Rattle.characters.specs.If.{if_then_else_}
 use Rattle.characters.specs.Utf8.{textBytes}
 use Rattle.characters.proofs.RoundTrip.{Scalars}
@@ -15,7 +16,7 @@ use Rattle.block.specs.Tag.{Tag}
 use Rattle.block.specs.Result.{Result, good, tooNarrow}
 use Rattle.block.specs.Flat.{Line, Block, columns, withLine, forceFlushLine, hardWrap, sheetLine}
 use Rattle.lines.specs.Items.{Item, item, items, zip}
-use Rattle.lines.specs.Bridge.{num, enc, Valid, text, width, Cut}
+use Rattle.lines.specs.Bridge.{num, enc, Valid, text, Cut}
 use Rattle.hard_wrap.specs.declared.line.Frame.{Frame}
 use Rattle.hard_wrap.specs.declared.line.Open.{Open}
 use Rattle.hard_wrap.specs.declared.wrap.Step.{Step}

@@ -5,9 +5,9 @@ use mathlib.Core.List.{List, _++_}
 use Prim.Native.Nat.{ℕ, _-_}
 use lib.ListN.{length, drop}
 use Rattle.characters.specs.Utf8.{Scalar, utf8, textBytes}
-use Rattle.characters.specs.Columns.{cols}
+use Rattle.characters.specs.Columns.{cols, width}
 use Rattle.characters.proofs.RoundTrip.{Scalars}
-use Rattle.lines.specs.Bridge.{width, Stops}
+use Rattle.lines.specs.Bridge.{Stops}
 
 -- the bytes and the columns of the first character
 abbrev pub Shows : List ℕ → ℕ → ℕ → Type 0

@@ -3,10 +3,12 @@
 // bytes that are no text too; what it says of characters holds for those that the bytes are the UTF-8 of.
 use characters::columns::Columns;
 use characters::columns::columns_of;
+use characters::plain::plain_run;
 use characters::utf8::Decoded;
 use characters::utf8::decode;
 use fields::field::wide;
 ghost use mathlib.Core.Path.{_≡_};
+ghost use mathlib.Core.Logic.{_⊎_};
 ghost use Prim.Native.Nat.{_*_, _^_, _≤_, _<_};
 ghost use lib.ListN.{length};
 ghost use Rattle.characters.specs.Columns.{cols};
@@ -37,6 +39,17 @@ fn columns_no(c: u32) -> usize
     }
 }
 
+// The lesser number.
+pub fn least(a: usize, b: usize) -> usize
+    ensures { λ r. ⌜ (r ≤ a) × (r ≤ b) ⌝ }
+    ensures { λ r. ⌜ (r ≡ a) ⊎ (r ≡ b) ⌝ }
+{
+    if a < b {
+        return a;
+    }
+    b
+}
+
 // The first character.
 pub fn glyph(part: &[u8]) -> Shape
     requires { ⌜ 0 < length (now part) ⌝ }
@@ -62,6 +75,10 @@ pub fn fit(part: &[u8], left: usize) -> Place
     let mut i = 0;
     let mut used = 0;
     let at = 'walk: loop {
+        let end = i + least(part.len() - i, left - used);
+        let run = plain_run(&part[i..end], true);
+        used += run.cols;
+        i += run.len;
         if i >= part.len() {
             break 'walk i;
         }
@@ -83,10 +100,15 @@ pub fn width_of(part: &[u8]) -> usize
 {
     let mut i = 0;
     let mut used = 0;
-    while i < part.len() {
+    loop {
+        let run = plain_run(&part[i..], true);
+        used += run.cols;
+        i += run.len;
+        if i >= part.len() {
+            return used;
+        }
         let g = glyph(&part[i..]);
         used += g.cols;
         i += g.len;
     }
-    used
 }

@@ -49,12 +49,6 @@ unfolding enc spaces tagged utf8
 enc-spaces zero t = refl
 enc-spaces (suc n) t = ap (λ (l : Bytes). item 0x20 (num t) ∷ l) (enc-spaces n t)
 
--- The bytes of two texts, put together.
-pub textBytes-append : (a b : List ℕ) → textBytes (a ++ b) ≡ textBytes a ++ textBytes b
-unfolding textBytes
-textBytes-append [] b = refl
-textBytes-append (c ∷ a) b = rw (textBytes-append a b, append-assoc)
-
 -- Two valid lines make one.
 pub valid-append : (a b : Line) → Valid a → Valid b → Valid (a ++ b)
 valid-append [] b v w = w

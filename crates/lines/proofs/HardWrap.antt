@@ -5,19 +5,18 @@ use mathlib.Core.Bool.{Bool, true, false, _&&_}
 use mathlib.Core.Option.{Option, none, some}
 use mathlib.Core.List.{List, [], _∷_, _++_, append-nil, append-assoc}
 use Prim.Native.Nat.{ℕ, _+_, _-_, _<_, _≤_}
-use native.Mathlib.Nat.{zero-add}
 use native.Mathlib.Omega.{arith}
 use borrow.Author.Tests.{le-leb, lt-leb, eq-eqb, ne-eqb}
 use lib.Dec.{eqb}
 use lib.ListN.{length}
 use Rattle.characters.specs.If.{if_then_else_}
-use Rattle.characters.specs.Columns.{cols}
+use Rattle.characters.specs.Columns.{cols, width}
 use Rattle.fields.specs.Job.{Mode, normal, pre, preWrap}
 use Rattle.fields.specs.declared.job.Setup.{Setup}
 use Rattle.block.specs.Tag.{Tag, sameTag, sameMode}
 use Rattle.block.specs.Result.{tooNarrow}
 use Rattle.block.specs.Flat.{char, name, Line, columns, pushChar, Block, withLine, left, forceFlushLine, alone, narrow, onLine, tooWide, isFirst, nextLine, wrapChar, goOn, hardWrap}
-use Rattle.lines.specs.Bridge.{text, width, Cut}
+use Rattle.lines.specs.Bridge.{text, Cut}
 use Rattle.block.proofs.Width.{columns-append}
 use Rattle.block.proofs.Group.{same-self}
 
@@ -26,12 +25,6 @@ pub columns-text : (t : Tag) (cs : List ℕ) → columns (text t cs) ≡ width c
 unfolding columns width
 columns-text t [] = refl
 columns-text t (c ∷ cs) = ap (λ (n : ℕ). cols c + n) (columns-text t cs)
-
--- The width of two texts, put together.
-pub width-append : (a b : List ℕ) → width (a ++ b) ≡ width a + width b
-unfolding width
-width-append [] b = sym (zero-add (width b))
-width-append (c ∷ a) b = let ih = width-append a b in omega arith
 
 -- Two texts of one tag, put together.
 pub text-append : (t : Tag) (a b : List ℕ) → text t (a ++ b) ≡ text t a ++ text t b

@@ -1,57 +1,87 @@
 -- Runs, pieces and their fields, over the lists that the buffers hold, and what each write of a line comes to.
 -- Assumes nothing.
-use mathlib.Core.Path.{_≡_, refl, ap, _∙_}
-use mathlib.Core.Bool.{Bool, true, false, and-false, and-true}
+use mathlib.Core.Path.{_≡_, refl, sym, ap, _∙_}
+use mathlib.Core.Bool.{Bool, true, false, _&&_, not}
 use mathlib.Core.List.{List, [], _∷_, _++_}
 use Prim.Native.Nat.{ℕ, suc, _+_, _-_, _%_, _≤_, _<_}
+use native.Mathlib.Nat.{zero-add}
 use native.Mathlib.Numerals.{add-one}
 use native.Mathlib.Omega.{arith}
-use borrow.Author.Tests.{eq-eqb, ne-eqb}
+use borrow.Author.Tests.{eq-eqb, ne-eqb, eqb-true}
 use lib.ListN.{length, take, drop, getD, length-take, length-drop, drop-of-length-le}
 use lib.Seq.{drop-cons, drop-drop, drop-length, take-length}
 use lib.Dec.{eqb}
 use Rattle.characters.specs.If.{if_then_else_}
+use Rattle.characters.proofs.Tests.{or-true}
 use Rattle.fields.specs.Field.{head, field}
 use Rattle.fields.specs.Store.{Wrote}
 use Rattle.fields.proofs.Sets.{wrote-then, wrote-before, wrote-none}
 use Rattle.lines.specs.Items.{Item, item, zip, markTag, nameTag}
-use Rattle.lines.specs.Encode.{joins, onFirst, startsWith, pieces, fieldOf, pieceField, pieceFields, content, lineField, runT}
+use Rattle.lines.specs.Encode.{joins, onFirst, startsWith, pieces, fieldOf, pieceField, pieceFields, content, lineField, runT, sameT}
 use Rattle.lines.proofs.Buffers.{zip-bytes, zip-nil}
 
 -- ---- runs
 
--- a name's byte
-pub joins-name : (t u : ℕ) → u ≡ nameTag → true ≡ joins t u
-unfolding joins
-joins-name t u e = rw (eq-eqb u nameTag e)
+-- After a name's byte a piece goes on in a name's bytes.
+run-after-name : (l : List ℕ) → runT nameTag l ≡ sameT nameTag l
+unfolding runT sameT joins
+run-after-name [] = refl
+run-after-name (u ∷ us) = go (run-after-name us) (eqb u nameTag) refl
+  where
+    go : runT nameTag us ≡ sameT nameTag us → (e : Bool) → eqb u nameTag ≡ e → runT nameTag (u ∷ us) ≡ sameT nameTag (u ∷ us)
+    go i true e = rw e (ap suc (rw (eqb-true u nameTag e) i))
+    go i false e = rw e
 
--- a name's start
-pub joins-mark : (t u : ℕ) → u ≡ markTag → false ≡ joins t u
-unfolding joins
-joins-mark t u e = rw (e, and-false)
+-- no test is true and false
+not-both : (e : Bool) → (e && not e) ≡ false
+not-both true = refl
+not-both false = refl
 
--- a text's byte
-pub joins-same : (t u : ℕ) → (u ≡ nameTag → ⊥) → (u ≡ markTag → ⊥) → eqb u t ≡ joins t u
-unfolding joins
-joins-same t u e f = rw (ne-eqb u nameTag e, ne-eqb u markTag f, and-true)
+-- The run of a mark is its name's bytes.
+pub run-of-mark : (l : List ℕ) → runT markTag l ≡ sameT nameTag l
+unfolding runT sameT joins
+run-of-mark [] = refl
+run-of-mark (u ∷ us) = go (eqb u nameTag) refl
+  where
+    go : (e : Bool) → eqb u nameTag ≡ e → runT markTag (u ∷ us) ≡ sameT nameTag (u ∷ us)
+    go true e = rw e (ap suc (rw (eqb-true u nameTag e) (run-after-name us)))
+    go false e = rw (e, not-both (eqb u markTag))
+
+-- The run of another tag is the entries of that tag, and then a name's bytes.
+pub run-of-text : (t : ℕ) (l : List ℕ) → (t ≡ markTag → ⊥) → runT t l ≡ sameT t l + sameT nameTag (drop (sameT t l) l)
+unfolding runT sameT joins
+run-of-text t [] h = refl
+run-of-text t (u ∷ us) h = go (run-of-text t us h) (eqb u t) (eqb u nameTag) refl refl
+  where
+    go : runT t us ≡ sameT t us + sameT nameTag (drop (sameT t us) us) → (e f : Bool) → eqb u t ≡ e → eqb u nameTag ≡ f
+        → runT t (u ∷ us) ≡ sameT t (u ∷ us) + sameT nameTag (drop (sameT t (u ∷ us)) (u ∷ us))
+    go i true f e g = rw (e, ne-eqb u markTag (λ q. h (sym (eqb-true u t e) ∙ q)), or-true (eqb u nameTag), eqb-true u t e) (omega (arith, i))
+    go i false true e g = rw (e, g, eqb-true u nameTag g, run-after-name us) (sym (zero-add _))
+    go i false false e g = rw (e, g)
+
+-- The same from index i on: the entries of the tag end at k, and a name's bytes go on from there.
+pub run-at : (ts : List ℕ) (t i k : ℕ) → (t ≡ markTag → ⊥) → k ≡ i + sameT t (drop i ts) → k + sameT nameTag (drop k ts) ≡ i + runT t (drop i ts)
+run-at ts t i k h e =
+    let m : ℕ = sameT t (drop i ts) in
+    let r = run-of-text t (drop i ts) h in
+    let d : drop k ts ≡ drop m (drop i ts) = ap (λ (n : ℕ). drop n ts) e ∙ sym (drop-drop m i ts) in
+    omega (arith, ap (sameT nameTag) d, r)
 
 module _ (ts : List ℕ) (t j : ℕ) (h : j < length ts) where
-  -- the run goes on
-  pub run-on : joins t (getD ts j 0) ≡ true → runT t (drop j ts) ≡ suc (runT (getD ts j 0) (drop (j + 1) ts))
-  unfolding runT
-  run-on e = rw (drop-cons ts j 0 h, add-one, e)
+  -- one entry of the tag more
+  pub same-on : getD ts j 0 ≡ t → sameT t (drop j ts) ≡ suc (sameT t (drop (j + 1) ts))
+  unfolding sameT
+  same-on e = rw (drop-cons ts j 0 h, add-one, eq-eqb (getD ts j 0) t e)
 
-  -- the run ends
-  pub run-off : joins t (getD ts j 0) ≡ false → runT t (drop j ts) ≡ 0
-  unfolding runT
-  run-off e = rw (drop-cons ts j 0 h, e)
+  -- an entry of another tag
+  pub same-off : (getD ts j 0 ≡ t → ⊥) → sameT t (drop j ts) ≡ 0
+  unfolding sameT
+  same-off e = rw (drop-cons ts j 0 h, ne-eqb (getD ts j 0) t e)
 
 -- the line ends
-pub run-out : (ts : List ℕ) (t j : ℕ) → length ts ≤ j → j ≤ length ts → runT t (drop j ts) ≡ 0
-unfolding runT
-run-out ts t j h g =
-    let q : j ≡ length ts = omega arith in
-    rw (q, drop-length)
+pub same-out : (ts : List ℕ) (t j : ℕ) → length ts ≤ j → sameT t (drop j ts) ≡ 0
+unfolding sameT
+same-out ts t j h = rw (drop-of-length-le ts h)
 
 -- ---- pieces
 

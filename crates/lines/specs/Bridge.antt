@@ -42,11 +42,6 @@ abbrev pub text : Tag → List ℕ → Line
 text t [] = []
 text t (c ∷ cs) = char c t ∷ text t cs
 
--- the columns of characters
-unfoldable pub width : List ℕ → ℕ
-width [] = 0
-width (c ∷ cs) = cols c + width cs
-
 -- what comes next does not go on a piece of the tag t
 abbrev pub Cut : Tag → Line → Type 0
 Cut t [] = Unit {0}

@@ -54,3 +54,8 @@ lineField l = field 0x4C (content l)
 unfoldable pub runT : ℕ → List ℕ → ℕ
 runT t [] = 0
 runT t (u ∷ us) = if joins t u then suc (runT u us) else 0
+
+-- how many entries at the front of the tags have the tag t
+unfoldable pub sameT : ℕ → List ℕ → ℕ
+sameT t [] = 0
+sameT t (u ∷ us) = if eqb u t then suc (sameT t us) else 0

@@ -10,7 +10,7 @@ ghost use Prim.Native.Nat.{_+_, _*_, _^_, _≤_, _<_};
 ghost use lib.ListN.{length, drop, getD};
 ghost use Rattle.fields.specs.Store.{Wrote};
 ghost use Rattle.lines.specs.Items.{zip, items};
-ghost use Rattle.lines.specs.Encode.{joins, runT, fieldOf, content, lineField};
+ghost use Rattle.lines.specs.Encode.{sameT, runT, fieldOf, content, lineField};
 
 // The tag of a name's start.
 pub const MARK: u32 = 1048576;
@@ -18,37 +18,34 @@ pub const MARK: u32 = 1048576;
 // The tag of a name's bytes.
 pub const NAME: u32 = 1114112;
 
-// Whether an entry of tag u goes on the piece of an entry of tag t before it.
-pub fn joined(t: u32, u: u32) -> bool
-    ensures { λ r. ⌜ r ≡ joins t u ⌝ }
+// The end of the entries of the tag t from i on.
+fn same_end(tags: &[u32], i: usize, t: u32) -> usize
+    requires { ⌜ i ≤ length (now tags) ⌝ }
+    ensures { λ r. ⌜ (i ≤ r) × (r ≤ length (now (tags .entry))) ⌝ }
+    ensures { λ r. ⌜ r ≡ i + sameT t (drop i (now (tags .entry))) ⌝ }
 {
-    if u == NAME {
-        return true;
+    let mut j = i;
+    while j < tags.len() {
+        if tags[j] != t {
+            return j;
+        }
+        j += 1;
     }
-    if u == MARK {
-        return false;
-    }
-    u == t
+    j
 }
 
-// The end of the piece that starts at i.
+// The end of the piece that starts at i: a mark goes on in a name's bytes, a text in entries of its tag and then in a name's bytes.
 pub fn run_end(tags: &[u32], i: usize) -> usize
     requires { ⌜ i < length (now tags) ⌝ }
     ensures { λ r. ⌜ (i < r) × (r ≤ length (now (tags .entry))) ⌝ }
     ensures { λ r. ⌜ r ≡ i + 1 + runT (getD (now (tags .entry)) i 0) (drop (i + 1) (now (tags .entry))) ⌝ }
 {
-    let mut t = tags[i];
-    let mut j = i + 1;
-    while j < tags.len() {
-        let u = tags[j];
-        if joined(t, u) {
-            t = u;
-            j += 1;
-        } else {
-            return j;
-        }
+    let t = tags[i];
+    if t == MARK {
+        return same_end(tags, i + 1, NAME);
     }
-    j
+    let text = same_end(tags, i + 1, t);
+    same_end(tags, text, NAME)
 }
 
 // One piece from its bytes, a name's mark among them, and its first entry's tag.

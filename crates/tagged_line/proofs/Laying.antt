@@ -12,12 +12,15 @@ use lib.Seq.{sets, drop-drop, length-take-le}
 use borrow.Author.Tests.{eqb-true, eqb-false, eq-eqb, ne-eqb}
 use Rattle.characters.specs.If.{if_then_else_}
 use Rattle.characters.specs.Columns.{columnsOf, widthIn, orZero, widthOf, cols}
+use Rattle.characters.specs.Columns as chars-columns
 use Rattle.characters.specs.Utf8.{decodeOf, chars}
+use Rattle.characters.specs.Plain.{PlainRun}
 use Rattle.characters.specs.declared.columns.Columns.{Columns}
 use Rattle.characters.specs.declared.utf8.Decoded.the-variants.{Char, Bad}
 use Rattle.characters.proofs.Tests.{and-left, and-right}
 use Rattle.characters.proofs.RoundTrip.{decode-size, chars-nil, chars-step, chars-bad}
 use Rattle.characters.proofs.Tables.{cols-le-two}
+use Rattle.characters.proofs.Runs.{run-chars}
 use Rattle.fields.specs.Field.{field, whole, broken, raws, both, readAll, all}
 use Rattle.fields.specs.Sheet.{Piece, str, fragment, readStr, readPiece, readablePiece, pieceBytes, piecesBytes}
 use Rattle.fields.specs.Store.{Wrote}
@@ -62,6 +65,18 @@ unfolding str-width
 after-cons n c none = refl
 after-cons n c (some cs) = omega arith
 
+-- the columns of characters and then of others
+widths : (cs l : List ℕ) → str-width (cs ++ l) ≡ chars-columns.width cs + str-width l
+unfolding str-width chars-columns.width
+widths [] l = omega arith
+widths (c ∷ cs) l = omega (arith, widths cs l)
+
+-- characters that are passed over add their columns
+after-run : (n : ℕ) (cs : List ℕ) (o : Option (List ℕ))
+    → after n (Option·map (λ (l : List ℕ). cs ++ l) o) ≡ after (n + chars-columns.width cs) o
+after-run n cs none = refl
+after-run n cs (some l) = omega (arith, widths cs l)
+
 -- up to a place of the text s, n columns
 pub record Counted (s : List ℕ) (at n : ℕ) : Type 0 where
   pub inside : at ≤ length s
@@ -79,6 +94,22 @@ module _ (s : List ℕ) (at n : ℕ) (w : Counted s at n) where
   counted-size c k e =
       let (lo, hi, fits) = decode-size (drop at s) c k (rw (rest s at) at e) in
       (lo, omega (arith, w .inside, fits, length-drop at s))
+
+  -- a run of plain characters on
+  pub count-run : (b : Bool) (k m : ℕ) → k ≤ length (take (length s - at) (drop at s)) → m ≤ k
+      → PlainRun b (take (length s - at) (drop at s)) k m → Counted s (at + k) (n + m)
+  count-run b k m h few r =
+      let q : PlainRun b (drop at s) k m = rw (rest s at) at r in
+      let size : k ≤ length s - at = rw (rest s at, length-drop) at h in
+      record {
+        inside = omega (arith, w .inside);
+        few = omega (arith, w .few);
+        left =
+            w .left
+            ∙ ap (after n) (run-chars q)
+            ∙ after-run n (q .cs) (chars (drop k (drop at s)))
+            ∙ rw (drop-drop k at s, q .columns);
+      }
 
   -- one character on
   pub count-on : (c k m : ℕ) → decodeOf (take (length s - at) (drop at s)) ≡ Char c k → m ≤ 2 → m ≡ cols c → Counted s (at + k) (n + m)

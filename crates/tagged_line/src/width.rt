@@ -1,6 +1,7 @@
 // The columns of a text (`UnicodeWidthStr::width`).
 use characters::columns::Columns;
 use characters::columns::columns_of;
+use characters::plain::plain_run;
 use characters::utf8::Decoded;
 use characters::utf8::decode;
 use fields::field::wide;
@@ -31,7 +32,13 @@ pub fn text_width(text: &[u8]) -> usize
 {
     let mut at: usize = 0;
     let mut cols: usize = 0;
-    while at < text.len() {
+    loop {
+        let run = plain_run(&text[at..], true);
+        cols += run.cols;
+        at += run.len;
+        if at >= text.len() {
+            return cols;
+        }
         let d = decode(&text[at..]);
         match d {
             Decoded::Char { code, len } => {
@@ -43,5 +50,4 @@ pub fn text_width(text: &[u8]) -> usize
             }
         }
     }
-    cols
 }

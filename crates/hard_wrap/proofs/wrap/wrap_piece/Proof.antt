@@ -7,7 +7,7 @@ use native.Mathlib.Omega.{arith}
 use borrow.Author.Tests.{ltb-true, ltb-false}
 use borrow.Author.Needs.{needs}
 use lib.ListN.{length}
-use Rattle.lines.specs.Bridge.{width}
+use Rattle.characters.specs.Columns.{width}
 use Rattle.hard_wrap.specs.Hold.{setup}
 use Rattle.hard_wrap.proofs.Piecewise.{Walked, piece-start, piece-turn, piece-rest, piece-end}
 use Rattle.hard_wrap.proofs.Walks.{part-len}

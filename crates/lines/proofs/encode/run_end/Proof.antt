@@ -1,83 +1,56 @@
--- `encode::run_end` meets its contract: at j, the run from there on ends where the whole run ends. Assumes nothing.
-use mathlib.Core.Path.{_≡_, refl, sym, _∙_}
-use Prim.Native.Nat.{_+_, _-_, _≤_, _<_}
+-- `encode::run_end` meets its contract: the run is entries of one tag and then of a name, or of a name alone. Assumes nothing.
 use native.Mathlib.Omega.{arith}
+use Prim.Native.Nat.{_+_}
 use borrow.Author.Needs.{needs}
-use lib.ListN.{length, drop, getD}
-use Rattle.lines.specs.Encode.{runT}
-use Rattle.lines.proofs.Pieces.{run-on, run-off, run-out}
+use lib.ListN.{drop, getD}
+use Rattle.lines.proofs.Pieces.{run-of-mark, run-at}
 use Rattle.lines.proofs.encode.run_end.Statement.{statement}
 use Rattle.lines.proofs.encode.run_end.Tie as tie
 
-abbrev Inv-loop : tie.InvT-loop
-Inv-loop tags i t₀ j₀ t j = (i < j) × (j ≤ length tags) × (j + runT t (drop j tags) ≡ i + 1 + runT (getD tags i 0) (drop (i + 1) tags))
-
-abbrev μ-loop : tie.MeasureT-loop
-μ-loop tags i t₀ j₀ t j = length tags - j
-
-mul-t : tie.Need-mul-t Inv-loop μ-loop
+mul-t : tie.Need-mul-t
 mul-t c = search needs
 
-shared-slice-read-t : tie.Need-shared-slice-read-t Inv-loop μ-loop
+shared-slice-read-t : tie.Need-shared-slice-read-t
 shared-slice-read-t c = search needs
 
-add-j : tie.Need-add-j Inv-loop μ-loop
-add-j c = search needs
+add-same-end : tie.Need-add-same-end
+add-same-end c = search needs
 
-loop-holds : tie.Need-loop-holds Inv-loop μ-loop
-loop-holds c = (search needs, search needs, refl)
+same-end-requires : tie.Need-same-end-requires
+same-end-requires c κs = search needs
 
-mul-u : tie.Need-mul-u Inv-loop μ-loop
-mul-u c = search needs
-
-shared-slice-read-u : tie.Need-shared-slice-read-u Inv-loop μ-loop
-shared-slice-read-u c = search needs
-
-joined-requires : tie.Need-joined-requires Inv-loop μ-loop
-joined-requires c κs = search needs
-
-add-j-2 : tie.Need-add-j-2 Inv-loop μ-loop
-add-j-2 c = search needs
-
-loop-less : tie.Need-loop-less Inv-loop μ-loop
-loop-less c = search needs
-
-loop-again : tie.Need-loop-again Inv-loop μ-loop
-loop-again c =
-    let a = c .before .before .before .before .before .before .before .args in
-    let head = c .before .before .before .before .loop in
-    let on = run-on (a .tags .now) (head .t) (head .j) (search needs) (sym (c .before .joined .ensures) ∙ c .if1 .taken) in
-    (search needs, search needs, omega (arith, on))
-
-returns : tie.Need-returns Inv-loop μ-loop
+returns : tie.Need-returns
 returns c =
-    let a = c .before .before .before .before .before .before .before .args in
-    let head = c .before .before .before .before .loop in
-    let off = run-off (a .tags .now) (head .t) (head .j) (search needs) (sym (c .before .joined .ensures) ∙ c .if1 .left) in
-    ((search needs, search needs), omega (arith, off))
-
-returns-2 : tie.Need-returns-2 Inv-loop μ-loop
-returns-2 c =
     let a = c .before .before .before .before .args in
-    let head = c .before .loop in
-    let off = run-out (a .tags .now) (head .t) (head .j) (search needs) (search needs) in
-    ((search needs, search needs), omega (arith, off))
+    let r = run-of-mark (drop (a .i + 1) (a .tags .now)) in
+    ((search needs, search needs), rw (c .before .if1 .taken) (omega (arith, r, c .same-end .ensures)))
+
+add-same-end-2 : tie.Need-add-same-end-2
+add-same-end-2 c = search needs
+
+same-end-requires-2 : tie.Need-same-end-requires-2
+same-end-requires-2 c κs = search needs
+
+same-end-requires-3 : tie.Need-same-end-requires-3
+same-end-requires-3 c κs = search needs
+
+returns-2 : tie.Need-returns-2
+returns-2 c =
+    let a = c .before .before .before .before .before .args in
+    let text = c .before .same-end2 in
+    let r = run-at (a .tags .now) (getD (a .tags .now) (a .i) 0) (a .i + 1) (text .result) (c .before .before .if1 .left) (text .ensures .1) in
+    ((search needs, search needs), omega (arith, r, c .same-end3 .ensures))
 
 pub run-end-spec : {M : Type 1} → statement M
 run-end-spec =
     tie.close
     (tie.spec
-    Inv-loop
-    μ-loop
     mul-t
     shared-slice-read-t
-    add-j
-    loop-holds
-    mul-u
-    shared-slice-read-u
-    joined-requires
-    add-j-2
-    loop-less
-    loop-again
+    add-same-end
+    same-end-requires
     returns
+    add-same-end-2
+    same-end-requires-2
+    same-end-requires-3
     returns-2)
