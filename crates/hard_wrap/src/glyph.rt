@@ -8,8 +8,7 @@ use characters::utf8::Decoded;
 use characters::utf8::decode;
 use fields::field::wide;
 ghost use mathlib.Core.Path.{_≡_};
-ghost use mathlib.Core.Logic.{_⊎_};
-ghost use Prim.Native.Nat.{_*_, _^_, _≤_, _<_};
+ghost use Prim.Native.Nat.{_*_, _^_, _≤_, _<_, min};
 ghost use lib.ListN.{length};
 ghost use Rattle.characters.specs.Columns.{cols};
 ghost use Rattle.hard_wrap.specs.Walk.{Shows, Fits, Widths};
@@ -41,8 +40,7 @@ fn columns_no(c: u32) -> usize
 
 // The lesser number.
 pub fn least(a: usize, b: usize) -> usize
-    ensures { λ r. ⌜ (r ≤ a) × (r ≤ b) ⌝ }
-    ensures { λ r. ⌜ (r ≡ a) ⊎ (r ≡ b) ⌝ }
+    ensures { λ r. ⌜ r ≡ min a b ⌝ }
 {
     if a < b {
         return a;

@@ -134,6 +134,22 @@ module _ (s : List ℕ) (at n : ℕ) (w : Counted s at n) where
   unfolding str-width
   count-end h = sym (w .left ∙ rw (drop-of-length-le s h, chars-nil) (omega arith))
 
+-- A text that is one run has the run's columns.
+pub run-width : {s : List ℕ} {n : ℕ} → PlainRun true s n n → n ≡ length s → n ≡ text-width s
+run-width {s} {n} r e =
+    let sum : 0 + chars-columns.width (r .cs) ≡ n = omega (arith, r .columns) in
+    count-end s n n
+    (record {
+      inside = omega arith;
+      few = omega arith;
+      left =
+          count-start s .left
+          ∙ ap (after 0) (run-chars r)
+          ∙ after-run 0 (r .cs) (chars (drop n s))
+          ∙ ap (λ (m : ℕ). after m (chars (drop n s))) sum;
+    })
+    (omega arith)
+
 -- ---- a piece after the others, as it stands
 
 -- the bytes of a last piece

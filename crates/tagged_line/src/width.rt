@@ -1,6 +1,7 @@
 // The columns of a text (`UnicodeWidthStr::width`).
 use characters::columns::Columns;
 use characters::columns::columns_of;
+use characters::plain::ascii_run;
 use characters::plain::plain_run;
 use characters::utf8::Decoded;
 use characters::utf8::decode;
@@ -24,8 +25,8 @@ fn char_width(c: u32) -> usize
     }
 }
 
-// The columns of a text; 0 for bytes that are no text.
-pub fn text_width(text: &[u8]) -> usize
+// The columns of a text, run by run of plain characters and one character after each; 0 for bytes that are no text.
+fn walked_width(text: &[u8]) -> usize
     requires { ⌜ length (now text) < 2 ^ 40 ⌝ }
     ensures { λ r. ⌜ r ≤ 2 * length (now (text .entry)) ⌝ }
     ensures { λ r. ⌜ r ≡ text-width (now (text .entry)) ⌝ }
@@ -50,4 +51,17 @@ pub fn text_width(text: &[u8]) -> usize
             }
         }
     }
+}
+
+// The columns of a text; 0 for bytes that are no text. A text of printable ASCII has as many as bytes.
+pub fn text_width(text: &[u8]) -> usize
+    requires { ⌜ length (now text) < 2 ^ 40 ⌝ }
+    ensures { λ r. ⌜ r ≤ 2 * length (now (text .entry)) ⌝ }
+    ensures { λ r. ⌜ r ≡ text-width (now (text .entry)) ⌝ }
+{
+    let n = ascii_run(text);
+    if n == text.len() {
+        return n;
+    }
+    walked_width(text)
 }

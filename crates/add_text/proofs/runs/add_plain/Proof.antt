@@ -17,7 +17,7 @@ least-requires : tie.Need-least-requires
 least-requires c κs = search needs
 
 slice-aggregate-plain-run : tie.Need-slice-aggregate-plain-run
-slice-aggregate-plain-run c = sym (length-take-le _ _ (c .before .least .ensures .0 .0))
+slice-aggregate-plain-run c = let e = c .before .least .ensures in sym (length-take-le _ _ (omega arith))
 
 plain-run-requires : tie.Need-plain-run-requires
 plain-run-requires c κs = search needs
@@ -35,13 +35,17 @@ tag-of-requires c κs = search needs
 slice-aggregate-push-chars : tie.Need-slice-aggregate-push-chars
 slice-aggregate-push-chars c =
     let start = c .before .before .before .before .before .before .before .before .before .before .before .before in
-    sym (length-take-le _ _ (run-inside (start .args .text .now) _ _ (c .before .before .before .before .before .before .before .least .ensures .0 .0) (c .before .before .before .before .before .plain-run .ensures .0 .0)))
+    let end = c .before .before .before .before .before .before .before .least in
+    let e = end .ensures in
+    sym (length-take-le _ _ (run-inside (start .args .text .now) (end .result) _ (omega arith) (c .before .before .before .before .before .plain-run .ensures .0 .0)))
 
 push-chars-requires : tie.Need-push-chars-requires
 push-chars-requires c κs =
     let start = c .before .before .before .before .before .before .before .before .before .before .before .before in
     let run = c .before .before .before .before .before .plain-run in
-    let inside = run-inside (start .args .text .now) _ _ (c .before .before .before .before .before .before .before .least .ensures .0 .0) (run .ensures .0 .0) in
+    let end = c .before .before .before .before .before .before .before .least in
+    let e = end .ensures in
+    let inside = run-inside (start .args .text .now) (end .result) _ (omega arith) (run .ensures .0 .0) in
     ((start .pre .0 .0 .small, start .pre .0 .1), plain-fits (start .args .w .st) (start .args .text .now) _ _ inside (c .before .before .before .before .if1 .left) (run .ensures .0 .1) (start .pre .1 .1))
 
 same-length : tie.Need-same-length
@@ -57,15 +61,16 @@ returns-2 c =
     let run = c .before .before .before .before .before .before .before .before .before .before .plain-run in
     let how = c .before .before .before .before .before .before .before .before .before .before .before .before .before .take-of in
     let x = c .before .before .before .before .push-chars in
-    let most = c .before .before .before .before .before .before .before .before .before .before .before .before .least .ensures .0 in
-    let inside = run-inside (a .text .now) _ _ (most .0) (run .ensures .0 .0) in
+    let end = c .before .before .before .before .before .before .before .before .before .before .before .before .least in
+    let e = end .ensures in
+    let inside = run-inside (a .text .now) (end .result) _ (omega arith) (run .ensures .0 .0) in
     let size = length-take-le (run .result .len) (a .text .now) inside in
     let used = x .ensures .0 .1 in
     let left = c .before .before .before .before .before .before .before .before .before .if1 .left in (
       (inside, walked-on (a .frame) (x .result) (how .result .ann) _ (x .ensures .0 .0, omega arith) (how .ensures .0)),
-      plain-taken (a .frame) (a .run) (a .w) (a .text .now) (how .result) (run .result .len) (run .result .cols) (c .before .before .before .before .before .before .before .before .tag-of .result) (run-whole (a .text .now) (c .before .before .before .before .before .before .before .before .before .before .before .before .least .result) (run .ensures .1)) (x .result)
+      plain-taken (a .frame) (a .run) (a .w) (a .text .now) (how .result) (run .result .len) (run .result .cols) (c .before .before .before .before .before .before .before .before .tag-of .result) (run-whole (a .text .now) (end .result) (run .ensures .1)) (x .result)
           (a .wb .now) (a .wt .now) _ _ (omega arith) (c .before .before .before .before .before .before .before .before .tag-of .ensures) (how .ensures .0) (x .ensures .1) (how .ensures)
-          (run-most (a .text .now) _ _ (most .0) (run .ensures .0 .0) _ _ (most .1) (run .ensures .0 .1)),
+          (run-most (a .text .now) (end .result) _ (omega arith) (run .ensures .0 .0) _ _ (omega arith) (run .ensures .0 .1)),
     )
 
 pub add-plain-spec : {M : Type 1} → statement M

@@ -74,7 +74,9 @@ add-i-2 : tie.Need-add-i-2 Inv-walk μ-walk
 add-i-2 c = search needs
 
 walk-less : tie.Need-walk-less Inv-walk μ-walk
-walk-less c = search needs
+walk-less c =
+    let c4 = c .before .before .before .before in
+    omega (arith, c4 .glyph .ensures .0 .0, c4 .before .before .if1 .left)
 
 -- past the run, the characters before it and those of the run
 past : (c : tie.After-plain-run Inv-walk μ-walk) (cs : List ℕ) → Scalars cs
