@@ -14,7 +14,7 @@ use Rattle.characters.specs.Columns.{columnsOf, widthIn, widthOf}
 use Rattle.characters.specs.Utf8.{utf8}
 use Rattle.characters.specs.declared.columns.Columns.{Columns}
 use Rattle.characters.specs.declared.columns.Columns.the-variants.{Cols}
-use Rattle.characters.proofs.Tables.{cols-le-two}
+use Rattle.characters.proofs.Tables.{cols-in}
 use Rattle.fields.specs.Job.{Mode, normal, pre, preWrap}
 use Rattle.fields.specs.declared.job.Setup.{Setup}
 use Rattle.block.specs.Tag.{tag, isPre}
@@ -24,7 +24,6 @@ use Rattle.block.proofs.Neats.{NeatWalk, neat-wrapped, neat-ink}
 use Rattle.lines.specs.Bridge.{modeNo, num}
 use Rattle.hard_wrap.specs.Hold.{setup}
 use Rattle.hard_wrap.specs.declared.line.Frame.{Frame}
-use Rattle.hard_wrap.proofs.Glyphs.{cols-in}
 use Rattle.flush_word.specs.Keep.{Keeps, Small}
 use Rattle.flush_word.specs.declared.state.State.{State}
 use Rattle.flush_word.proofs.Flushing.{holds-lines}

@@ -19,7 +19,7 @@ use Rattle.characters.specs.Whitespace.{isWordbreakPoint}
 use Rattle.characters.specs.Plain.{isPlain, AllPlain, PlainRun}
 use Rattle.characters.proofs.Tests.{by-if}
 use Rattle.characters.proofs.Tables.{plain-positive, plain-width, plain-takes-space, plain-no-break, plain-not-zwsp}
-use Rattle.characters.proofs.Runs.{plain-scalars, run-chars}
+use Rattle.characters.proofs.Runs.{plain-scalars, run-chars, some-append}
 use Rattle.fields.specs.Job.{Mode, normal, pre, preWrap}
 use Rattle.fields.specs.declared.job.Setup.{Setup}
 use Rattle.block.specs.Tag.{tag, isPre}
@@ -177,12 +177,6 @@ plain-fits st bs len n h pos c u =
 
 -- ---- over the buffers
 
--- characters put before others: the others are there
-others : (cs : List ℕ) (o : Option (List ℕ)) (xs : List ℕ) → Option·map (λ (l : List ℕ). cs ++ l) o ≡ some xs
-    → (zs : List ℕ) × (o ≡ some zs) × (xs ≡ cs ++ zs)
-others cs none xs e = absurd (let z : _≡_ {A = ℕ} 0 1 = cc in omega arith)
-others cs (some zs) xs e = (zs, refl, cc)
-
 -- a walk and the bytes behind
 abbrev pub pastOf : Walk → ℕ → Past
 pastOf w len = record { w = w; len = len }
@@ -202,7 +196,7 @@ module _ (frame : Frame) (run : Run) (w : Walk) (bs : List ℕ) (how : Take) (le
   pub plain-adds : Keeping frame run w how → n ≤ how .most → AddsPlain frame run w bs wb wt (pastOf (walkOf st (how .ann)) len) wb′ wt′
   plain-adds keep le d₀ base v m main wrap cs lb lt out k i e =
       let s = setup frame in
-      let (zs, ez, ex) = others (r .cs) (chars (drop len bs)) cs (sym (run-chars r) ∙ e) in
+      let (zs, ez, ex) = some-append (r .cs) (chars (drop len bs)) cs (sym (run-chars r) ∙ e) in
       let h = k .keeps in
       let c = r .columns in
       let l = h .line .cols in
@@ -226,7 +220,7 @@ module _ (frame : Frame) (run : Run) (w : Walk) (bs : List ℕ) (how : Take) (le
   pub plain-adds-wrapped : Wrapping frame run w how → AddsPlain frame run w bs wb wt (pastOf (walkOf st (how .ann)) len) wb′ wt′
   plain-adds-wrapped past d₀ base v m main wrap cs lb lt out k i e =
       let s = setup frame in
-      let (zs, ez, ex) = others (r .cs) (chars (drop len bs)) cs (sym (run-chars r) ∙ e) in
+      let (zs, ez, ex) = some-append (r .cs) (chars (drop len bs)) cs (sym (run-chars r) ∙ e) in
       let h = k .keeps in
       let l = h .line .cols in
       let p = is-pre m (sym (i .mode) ∙ past .mode) in

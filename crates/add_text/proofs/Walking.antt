@@ -15,7 +15,7 @@ use Rattle.characters.specs.Whitespace.{alwaysTakesSpace}
 use Rattle.characters.specs.Utf8.{decodeOf, chars}
 use Rattle.characters.specs.declared.utf8.Decoded.the-variants.{Char, Bad}
 use Rattle.characters.proofs.Tests.{by-if}
-use Rattle.characters.proofs.RoundTrip.{decode-sound, decode-size, chars-nil, chars-step, chars-bad}
+use Rattle.characters.proofs.RoundTrip.{decode-sound, decode-size, chars-nil, chars-step, chars-bad, some-cons}
 use Rattle.fields.specs.Job.{Mode, normal, pre, preWrap}
 use Rattle.fields.specs.declared.job.Setup.{Setup}
 use Rattle.fields.proofs.Texts.{rest}
@@ -230,11 +230,6 @@ module _ (frame : Frame) (run : Run) (w : Walk) (code : ℕ) (lb lt wb wt out : 
 
 -- ---- the first character of a text
 
--- a character put before others: the others are there
-others : (c : ℕ) (o : Option (List ℕ)) (cs : List ℕ) → Option·map (λ (xs : List ℕ). c ∷ xs) o ≡ some cs → (zs : List ℕ) × (o ≡ some zs) × (cs ≡ c ∷ zs)
-others c none cs e = absurd (let z : _≡_ {A = ℕ} 0 1 = cc in omega arith)
-others c (some zs) cs e = (zs, refl, cc)
-
 -- a text that begins with no character has none
 no-chars : (text cs : List ℕ) → decodeOf text ≡ Bad → chars text ≡ some cs → cs ≡ []
 no-chars [] cs e q = cc chars-nil
@@ -421,7 +416,7 @@ module _ {frame : Frame} {run : Run} {text lb₀ lt₀ wb₀ wt₀ out₀ : List
             out-same = p₅ ∙ inv .out-same;
             gone = λ d₀ base b m main wrap cs o i t.
                 let g = inv .gone d₀ base b m main wrap cs o i t in
-                let (zs, ez, ex) = others c (chars (drop k (take (length text - at) (drop at text)))) (g .zs)
+                let (zs, ez, ex) = some-cons c (chars (drop k (take (length text - at) (drop at text)))) (g .zs)
                 (sym (chars-step (take (length text - at) (drop at text)) c k e) ∙ left-is (g .zs) (g .left)) in
                 let n : NextWalk (step (setup frame) m main wrap c (g .v)) d₀ base w lb′ lt′ wb′ wt′ out′ = rw q at (adds d₀ base (g .v) m main wrap (g .keeps) i) in
                 record {
@@ -437,7 +432,7 @@ module _ {frame : Frame} {run : Run} {text lb₀ lt₀ wb₀ wt₀ out₀ : List
       pub walking-narrow : r ≡ walked.Narrow → AddsText frame run (start .st) text lb₀ lt₀ wb₀ wt₀ out₀ flushed.Narrow lb′ lt′ wb′ wt′ out′
       walking-narrow q d₀ base b m main wrap cs o i t =
           let g = inv .gone d₀ base b m main wrap cs o i t in
-          let (zs, ez, ex) = others c (chars (drop k (take (length text - at) (drop at text)))) (g .zs)
+          let (zs, ez, ex) = some-cons c (chars (drop k (take (length text - at) (drop at text)))) (g .zs)
           (sym (chars-step (take (length text - at) (drop at text)) c k e) ∙ left-is (g .zs) (g .left)) in
           let n : step (setup frame) m main wrap c (g .v) ≡ tooNarrow = rw q at (adds d₀ base (g .v) m main wrap (g .keeps) i) in
           text-narrow (setup frame) m main wrap cs b (g .same ∙ steps-narrow (setup frame) m main wrap c (g .zs) zs (g .v) ex n)

@@ -13,33 +13,21 @@ use lib.Seq.{length-take-le, drop-drop, getD-take, getD-drop, take-add, take-tak
 use borrow.Author.Tests.{eqb-true, le-leb, lt-leb}
 use Rattle.characters.specs.If.{if_then_else_}
 use Rattle.characters.proofs.Tests.{lt-or-le, and-left, and-right}
-use Rattle.fields.specs.Field.{Raw, whole, broken, raws, fieldAt, readAll, all}
+use Rattle.fields.specs.Field.{Raw, whole, broken, raws, fieldAt, readAll, all, part}
 use Rattle.fields.specs.Sheet.{Piece, RenderLine, text, border, readPiece, isSegment, readBorder, readLine, Cell, cell, readCellContent, readCell, readableLine, readableLines}
 use Rattle.fields.specs.declared.field.Field.the-variants.{At, Broken, End}
 use Rattle.fields.proofs.Readings.{read-first, read-none, read-on}
 use Rattle.fields.proofs.Fields.{raws-nil, field-is, field-broken, field-end, at-end, at-short, at-cut, at-field}
+use Rattle.fields.proofs.Parts.{part-length, part-cons, drop-take}
 use Rattle.rows.specs.SubRenderer.{startsBorder, withoutTop, bottom, withoutBottom, anyStartsBorder}
 use Rattle.rows.specs.Columns.{collapsed, columnOf}
-use Rattle.append_columns.specs.Cells.{part, LinesAt, LastLine, none-there, last-there, FindsLast, PassesTop, bottomFrom, bottomAt, ColumnIs, Places, CellsAre, Starts}
+use Rattle.append_columns.specs.Cells.{LinesAt, LastLine, none-there, last-there, FindsLast, PassesTop, bottomFrom, bottomAt, ColumnIs, Places, CellsAre, Starts}
 
 -- ---- parts of a byte list
-
--- A part that lies inside has its length.
-pub part-length : (from to : ℕ) (s : List ℕ) → to ≤ length s → length (part from to s) ≡ to - from
-part-length from to s h = length-take-le (to - from) (drop from s) (omega (arith, length-drop from s))
 
 -- A byte of a part.
 pub part-byte : (from to i : ℕ) (s : List ℕ) → i < to - from → getD (part from to s) i 0 ≡ getD s (from + i) 0
 part-byte from to i s h = getD-take (to - from) (drop from s) i 0 h ∙ getD-drop from s i 0
-
-drop-take : (m n : ℕ) (l : List ℕ) → m ≤ n → n ≤ length l → drop m (take n l) ≡ take (n - m) (drop m l)
-drop-take m n l h k =
-    let e : n ≡ m + (n - m) = omega arith in
-    let w : length (take m l) ≡ m = length-take-le m l (omega arith) in
-    ap (λ (z : ℕ). drop m (take z l)) e
-    ∙ ap (drop m) (take-add m (n - m) l)
-    ∙ ap (λ (z : ℕ). drop z (take m l ++ take (n - m) (drop m l))) (sym w)
-    ∙ drop-append-seam (take m l) (take (n - m) (drop m l))
 
 -- A part without its first bytes.
 pub part-drop : (from to i : ℕ) (s : List ℕ) → from + i ≤ to → to ≤ length s → drop i (part from to s) ≡ part (from + i) to s
@@ -405,13 +393,6 @@ pub bottom-none : (end stop : ℕ) → end ≤ stop → stop - end < 4 → stop 
 bottom-none end stop h k = rw (lt-leb (end + 4) stop (omega arith))
 
 -- ---- cells
-
--- A part and its first byte.
-pub part-cons : (from to : ℕ) (s : List ℕ) → from < to → to ≤ length s → part from to s ≡ getD s from 0 ∷ part (from + 1) to s
-part-cons from to s h k =
-    let one : from + 1 ≡ suc from = omega arith in
-    let n : to - from ≡ suc (to - suc from) = omega arith in
-    rw (one, n, drop-cons s from 0 (omega arith))
 
 -- An empty part.
 pub part-none : (from to : ℕ) (s : List ℕ) → to ≤ from → part from to s ≡ []

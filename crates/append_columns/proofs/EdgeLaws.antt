@@ -10,17 +10,18 @@ use lib.Dec.{leb}
 use lib.ListN.{length, take, drop, getD, length-drop, drop-of-length-le}
 use lib.Seq.{length-take-le, take-suc, drop-cons, getD-take, take-length}
 use Rattle.characters.proofs.Tests.{by-if, lt-or-le}
-use Rattle.fields.specs.Field.{raws, fieldAt, readAll}
+use Rattle.fields.specs.Field.{raws, fieldAt, readAll, part}
 use Rattle.fields.specs.Sheet.{RenderLine, Cell, readLine}
 use Rattle.fields.specs.declared.field.Field.the-variants.{At, Broken, End}
 use Rattle.fields.proofs.Fields.{field-is}
+use Rattle.fields.proofs.Parts.{part-length, part-cons}
 use Rattle.borders.specs.BorderHoriz.{merge-from-below, merge-from-above}
 use Rattle.borders.specs.Buffer.{Holds}
 use Rattle.rows.specs.SubRenderer.{top}
 use Rattle.rows.specs.Columns.{Column, column, joinAt, totalWidth, topsOf, bottomsOf}
-use Rattle.append_columns.specs.Cells.{part, LinesAt, bottomFrom, columnAt, ColumnsAre, CellsAre}
+use Rattle.append_columns.specs.Cells.{LinesAt, bottomFrom, columnAt, ColumnsAre, CellsAre}
 use Rattle.append_columns.specs.Edges.{Sat, MergesTop, MergesTops, MergesBottoms}
-use Rattle.append_columns.proofs.CellLaws.{part-length, part-cons, found-at, LineOf, is-text, is-border, line-of, LineThere, line-there, line-broken, line-end, no-lines, CellsFrom, next-cell, cells-broken, cells-end}
+use Rattle.append_columns.proofs.CellLaws.{found-at, LineOf, is-text, is-border, line-of, LineThere, line-there, line-broken, line-end, no-lines, CellsFrom, next-cell, cells-broken, cells-end}
 
 -- ---- the width of a row
 

@@ -10,7 +10,7 @@ use native.Mathlib.Omega.{arith}
 use lib.Dec.{eqb}
 use lib.ListN.{length, take, drop, getD, length-append, length-drop}
 use lib.Seq.{take-at, take-all, take-length}
-use Rattle.fields.specs.Field.{raws, readAll, all}
+use Rattle.fields.specs.Field.{raws, readAll, all, part}
 use Rattle.fields.specs.Sheet.{RenderLine, text, border, Cell, readLine, readSheet, readCells, readableCell}
 use Rattle.fields.specs.Store.{Wrote}
 use Rattle.fields.specs.Answer.{Verdict, refused, give, rendered}
@@ -28,7 +28,7 @@ use Rattle.rows.proofs.Columns.{columns-flat}
 use Rattle.add_line.specs.Emitted.{Emitted, noLines, InBounds, Next, PutsBorder, AddsBorder, CopiesLines, Closes}
 use Rattle.add_line.specs.declared.lines.Lines.{Lines}
 use Rattle.add_line.proofs.Emitting.{emitted-none}
-use Rattle.append_columns.specs.Cells.{part, LinesAt, LastLine, none-there, last-there, FindsLast, Sits, CellsAre, PlacesAll, Starts}
+use Rattle.append_columns.specs.Cells.{LinesAt, LastLine, none-there, last-there, FindsLast, Sits, CellsAre, PlacesAll, Starts}
 use Rattle.append_columns.specs.Edges.{Sat, joinOf, MergesTops, MergesBottoms}
 use Rattle.append_columns.specs.Row.{AddsRow}
 use Rattle.append_columns.specs.Laid.{NextOrSame, PutsPrev, AddsNext, SheetLast, AddsOld, Lays}

@@ -10,14 +10,15 @@ use lib.ListN.{length, take, drop, getD, set, length-append, length-map}
 use lib.Seq.{getD-set-same, getD-set-other, getD-at, take-suc-set}
 use borrow.Author.Tests.{eqb-true, eqb-false}
 use Rattle.characters.proofs.Tests.{by-if, and-left, and-right}
-use Rattle.fields.specs.Field.{fieldAt, all}
+use Rattle.fields.specs.Field.{fieldAt, all, part}
 use Rattle.fields.specs.Sheet.{Cell, readableLines, readableCell}
 use Rattle.fields.specs.declared.field.Field.the-variants.{At, Broken, End}
+use Rattle.fields.proofs.Parts.{part-length}
 use Rattle.borders.specs.BorderHoriz.{drawn}
 use Rattle.rows.specs.Columns.{Column, column, columnOf, cellWidths}
-use Rattle.append_columns.specs.Cells.{part, bottomFrom, Sits, ColumnIs, PlacedIn, Places, columnAt, ColumnsAre, CellsAre, PlacedAll, PlacesAll}
+use Rattle.append_columns.specs.Cells.{bottomFrom, Sits, ColumnIs, PlacedIn, Places, columnAt, ColumnsAre, CellsAre, PlacedAll, PlacesAll}
 use Rattle.append_columns.specs.declared.cells.Placed.{Placed}
-use Rattle.append_columns.proofs.CellLaws.{part-length, CellsFrom, next-cell, cells-broken, cells-end}
+use Rattle.append_columns.proofs.CellLaws.{CellsFrom, next-cell, cells-broken, cells-end}
 
 -- ---- one entry more
 

@@ -15,13 +15,14 @@ use Rattle.characters.specs.If.{if_then_else_}
 use Rattle.characters.specs.Utf8.{firstByte, stepByte, charsFrom, chars, utf8}
 use Rattle.characters.specs.Columns.{columnsOf, widthOf, cols}
 use Rattle.characters.proofs.Tests.{by-if, lt-or-le, and-left, and-right}
-use Rattle.fields.specs.Field.{whole, raws, fieldAt, Short, readAll, all}
+use Rattle.fields.specs.Field.{whole, raws, fieldAt, Short, readAll, all, part}
 use Rattle.fields.specs.Sheet.{Piece, str, fragment, RenderLine, text, border, readPiece, readablePiece, isSegment, readBorder, readLine, readableLine, readableLines}
 use Rattle.fields.specs.declared.field.Field.{Field}
 use Rattle.fields.specs.declared.field.Field.the-variants.{At, Broken, End}
 use Rattle.borders.specs.BorderHoriz.{drawn}
 use Rattle.borders.proofs.Drawing.{drawn-most}
 use Rattle.fields.proofs.Back.{Every}
+use Rattle.fields.proofs.Parts.{part-length}
 use Rattle.block.specs.TaggedLine.{str-width}
 use Rattle.rows.specs.declared.Setup.{Setup}
 use Rattle.rows.specs.TaggedLine.{WellFormedPiece, text-width, width, push-str, push-ws, addPieces}
@@ -35,9 +36,9 @@ use Rattle.tagged_line.proofs.Laying.{grown-more}
 use Rattle.add_line.specs.Emitted.{InBounds, Next, Fits, Emitted, AddsText as AddsLine}
 use Rattle.add_line.specs.declared.lines.Lines.{Lines}
 use Rattle.add_line.proofs.Emitting.{held-new}
-use Rattle.append_columns.specs.Cells.{part, bottomFrom, Sits, AllNear, ColumnIs, ColumnsAre, columnAt}
+use Rattle.append_columns.specs.Cells.{bottomFrom, Sits, AllNear, ColumnIs, ColumnsAre, columnAt}
 use Rattle.append_columns.specs.Row.{AddsText, AddsColumn, AddsEdge, AddsRowLine, GoesOn, Moves, AllMove, AllGoOn, Left, AddsRow}
-use Rattle.append_columns.proofs.CellLaws.{FoundAt, part-length, part-drop, first-line, no-lines, line-there, line-broken, line-end}
+use Rattle.append_columns.proofs.CellLaws.{FoundAt, part-drop, first-line, no-lines, line-there, line-broken, line-end}
 
 -- ---- a text of a cell
 

@@ -8,7 +8,7 @@ use Prim.Native.Nat.{ℕ, _+_, _-_, _≤_, _<_}
 use lib.Dec.{leb}
 use lib.ListN.{length, take, drop, getD}
 use Rattle.characters.specs.If.{if_then_else_}
-use Rattle.fields.specs.Field.{whole, raws, readAll, all}
+use Rattle.fields.specs.Field.{whole, raws, readAll, all, part}
 use Rattle.fields.specs.Sheet.{RenderLine, Cell, readLine, readCell, readableLines, readableCell}
 use Rattle.borders.specs.BorderHoriz.{drawn}
 use Rattle.rows.specs.SubRenderer.{isBorder, withoutTop, anyStartsBorder}
@@ -16,10 +16,6 @@ use Rattle.rows.specs.Columns.{Column, column, columnOf, cellWidths}
 use Rattle.append_columns.specs.declared.cells.Placed.{Placed}
 
 -- ---- parts of the bytes
-
--- from one place to another
-abbrev pub part : ℕ → ℕ → List ℕ → List ℕ
-part from to s = take (to - from) (drop from s)
 
 -- the lines that stand between two places
 pub record LinesAt (s : List ℕ) (from to : ℕ) (ls : List RenderLine) : Type 0 where

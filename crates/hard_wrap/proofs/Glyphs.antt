@@ -12,11 +12,6 @@ use Rattle.characters.specs.declared.utf8.Decoded.the-variants.{Char, Bad}
 use Rattle.characters.proofs.RoundTrip.{decode-complete}
 use Rattle.hard_wrap.specs.Walk.{Shows}
 
--- The columns by what the table says of a character.
-pub cols-in : (c : ℕ) (x : Columns) → columnsOf c ≡ x → orZero (widthIn x) ≡ cols c
-unfolding cols widthOf
-cols-in c x e = ap (λ (y : Columns). orZero (widthIn y)) (sym e)
-
 first-of : (part : List ℕ) (c : ℕ) (rest : List ℕ) → Scalar c → part ≡ utf8 c ++ rest → decodeOf part ≡ Char c (length (utf8 c))
 first-of part c rest v e = rw e (decode-complete c v rest)
 

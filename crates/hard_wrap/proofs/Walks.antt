@@ -64,9 +64,9 @@ module _ (part cs : List ℕ) where
       let e : drop i part ≡ textBytes (r .cs) ++ (r .rest ++ b) =
       sym (take-append-drop m (drop i part)) ∙ ap (λ (l : List ℕ). l ++ b) (r .whole) ∙ append-assoc (textBytes (r .cs)) (r .rest) b in
       let z = text-front (o .q) (r .cs) (r .rest ++ b) v (plain-scalars true (r .cs) (r .plain)) (sym (o .rest) ∙ e) in
-      let w : cs ≡ o .p ++ (r .cs ++ z .left) = o .whole ∙ ap (λ (x : List ℕ). o .p ++ x) (z .whole) in
-      let d : drop i part ≡ textBytes (r .cs) ++ textBytes (z .left) = o .rest ∙ ap textBytes (z .whole) ∙ textBytes-append (r .cs) (z .left) in
-      on-more (o .p) (r .cs) (z .left) i used len k w d (o .at) (o .cols) (r .bytes) (r .columns)
+      let w : cs ≡ o .p ++ (r .cs ++ z .0) = o .whole ∙ ap (λ (x : List ℕ). o .p ++ x) (z .1) in
+      let d : drop i part ≡ textBytes (r .cs) ++ textBytes (z .0) = o .rest ∙ ap textBytes (z .1) ∙ textBytes-append (r .cs) (z .0) in
+      on-more (o .p) (r .cs) (z .0) i used len k w d (o .at) (o .cols) (r .bytes) (r .columns)
 
   module _ (i used len k : ℕ) (s : Scalars cs) (h : i < length part) (g : Shows (drop i part) len k) where
     -- one character further

@@ -13,6 +13,7 @@ use Rattle.fields.specs.Field.{fieldAt}
 use Rattle.fields.specs.declared.field.Field.{Field}
 use Rattle.fields.specs.declared.field.Field.the-variants as field
 use Rattle.fields.proofs.Fields.{FieldIs, field-is, at-end}
+use Rattle.fields.proofs.Parts.{drop-take}
 use Rattle.reader.specs.Reading.{partOf, asPiece, pieceAt, asLine, lineAt}
 use Rattle.reader.specs.declared.line.Piece.the-variants as piece
 use Rattle.reader.specs.declared.line.Line.the-variants as line
@@ -37,28 +38,6 @@ part-inside start end s h k = rw (le-ltb end start h, le-ltb (length s) end k)
 -- Nothing stands from 0 to 0.
 pub part-zero : (s : List ℕ) → partOf 0 0 s ≡ []
 part-zero s = sym (part-inside 0 0 s (omega arith) (omega arith))
-
--- A part that lies in the list has its length.
-pub part-length : (start end : ℕ) (s : List ℕ) → end ≤ length s → length (take (end - start) (drop start s)) ≡ end - start
-part-length start end s h = length-take-le (end - start) (drop start s) (omega (arith, length-drop start s))
-
--- A part and its first byte.
-pub part-cons : (start end : ℕ) (s : List ℕ) → start < end → end ≤ length s
-    → take (end - start) (drop start s) ≡ getD s start 0 ∷ take (end - (start + 1)) (drop (start + 1) s)
-part-cons start end s h k =
-    let one : start + 1 ≡ suc start = omega arith in
-    let n : end - start ≡ suc (end - suc start) = omega arith in
-    rw (one, n, drop-cons s start 0 (omega arith))
-
--- The bytes behind a place of a list that was cut.
-pub drop-take : (m n : ℕ) (l : List ℕ) → m ≤ n → n ≤ length l → drop m (take n l) ≡ take (n - m) (drop m l)
-drop-take m n l h k =
-    let e : n ≡ m + (n - m) = omega arith in
-    let w : length (take m l) ≡ m = length-take-le m l (omega arith) in
-    ap (λ (z : ℕ). drop m (take z l)) e
-    ∙ ap (drop m) (take-add m (n - m) l)
-    ∙ ap (λ (z : ℕ). drop z (take m l ++ take (n - m) (drop m l))) (sym w)
-    ∙ drop-append-seam (take m l) (take (n - m) (drop m l))
 
 -- A part before the cut is a part of the whole list.
 pub part-cut : (start next end : ℕ) (s : List ℕ) → start ≤ next → next ≤ end → end ≤ length s

@@ -11,15 +11,16 @@ use lib.ListN.{length, take, drop, getD}
 use lib.Seq.{length-take-le}
 use borrow.Author.Tests.{eqb-true}
 use Rattle.characters.specs.If.{if_then_else_}
-use Rattle.fields.specs.Field.{Raw, whole, broken, raws, fieldAt, readAll, all}
+use Rattle.fields.specs.Field.{Raw, whole, broken, raws, fieldAt, readAll, all, part}
 use Rattle.fields.specs.Sheet as sheet
 use Rattle.fields.specs.Sheet.{RenderLine, str, fragment, text, border, readStr, readPiece, isSegment, readBorder, readLine, counted, readHeaded, readSheet}
 use Rattle.fields.specs.declared.field.Field.{Field}
 use Rattle.fields.specs.declared.field.Field.the-variants as field
 use Rattle.fields.proofs.Fields.{field-broken, field-end, at-end}
 use Rattle.fields.proofs.Readings.{read-first, read-none}
+use Rattle.fields.proofs.Parts.{part-length, part-cons, drop-take}
 use Rattle.reader.specs.Reading.{partOf, pieceAt, lineAt, piecesFrom, linesFrom, walked, WalksBack}
-use Rattle.reader.proofs.Places.{part-inside, part-length, part-cons, drop-take, part-cut, found, piece-is, piece-name, piece-text, line-is, line-text, line-border}
+use Rattle.reader.proofs.Places.{part-inside, part-cut, found, piece-is, piece-name, piece-text, line-is, line-text, line-border}
 
 -- ---- a list that is read
 
@@ -28,10 +29,6 @@ read-broken : {A : Type 0} (f : Raw → Option A) (l : List A) → f broken ≡ 
 read-broken f l n e = let r = read-first f broken [] l e in Option·none-ne-some (r .one) (sym n ∙ r .first)
 
 -- ---- pieces
-
--- the bytes from one place to another
-abbrev part : ℕ → ℕ → List ℕ → List ℕ
-part start next s = take (next - start) (drop start s)
 
 -- what a field that is read as a piece is
 data PieceOf (letter : ℕ) (t : List ℕ) (p : sheet.Piece) : Type 0 where

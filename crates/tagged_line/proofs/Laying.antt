@@ -40,11 +40,6 @@ use Rattle.tagged_line.proofs.Holding.{pieces-append}
 
 -- ---- the columns of a character
 
--- by what the table says of it
-pub cols-of : (c : ℕ) (x : Columns) → columnsOf c ≡ x → orZero (widthIn x) ≡ cols c
-unfolding cols widthOf
-cols-of c x e = ap (λ (y : Columns). orZero (widthIn y)) (sym e)
-
 -- at most two
 pub at-most-two : (c n : ℕ) → n ≡ cols c → (n ≤ 2) × (n ≡ cols c)
 at-most-two c n e = (omega (arith, e, cols-le-two c), e)

@@ -4,10 +4,10 @@ use Prim.Native.Nat.{_+_, _-_}
 use native.Mathlib.Omega.{arith}
 use lib.ListN.{length, drop}
 use denote.Ref.{now}
-use Rattle.fields.specs.Field.{fieldAt}
+use Rattle.fields.specs.Field.{fieldAt, part}
 use Rattle.fields.specs.declared.field.Field.the-variants.{At}
-use Rattle.append_columns.specs.Cells.{part}
-use Rattle.append_columns.proofs.CellLaws.{FoundAt, found-at, part-length}
+use Rattle.fields.proofs.Parts.{part-length}
+use Rattle.append_columns.proofs.CellLaws.{FoundAt, found-at}
 use Rattle.append_columns.proofs.EdgeLaws.{top-merged, top-kept, top-absent, top-broken}
 use borrow.Author.Needs.{needs}
 use Rattle.append_columns.proofs.edges.merge_top.Statement.{statement}

@@ -4,10 +4,10 @@ use Prim.Native.Nat.{_+_, _-_, _*_, _≤_, _<_}
 use native.Mathlib.Omega.{arith}
 use lib.ListN.{length, take, drop}
 use denote.Ref.{now}
-use Rattle.fields.specs.Field.{raws, fieldAt, Short}
+use Rattle.fields.specs.Field.{raws, fieldAt, Short, part}
 use Rattle.fields.specs.declared.field.Field.the-variants.{At}
-use Rattle.append_columns.specs.Cells.{part}
-use Rattle.append_columns.proofs.CellLaws.{FoundAt, found-at, part-length}
+use Rattle.fields.proofs.Parts.{part-length}
+use Rattle.append_columns.proofs.CellLaws.{FoundAt, found-at}
 use Rattle.append_columns.proofs.EdgeLaws.{Topping, topping-start, topping-on, topping-end, topping-broken, topping-empty, fields-less}
 use borrow.Author.Needs.{needs}
 use Rattle.append_columns.proofs.edges.merge_tops.Statement.{statement}

@@ -5,7 +5,7 @@ use native.Mathlib.Omega.{arith}
 use denote.Ref.{now}
 use lib.ListN.{length}
 use borrow.Author.Tests.{not-true, not-false}
-use Rattle.append_columns.proofs.CellLaws.{part-length}
+use Rattle.fields.proofs.Parts.{part-length}
 use Rattle.append_columns.proofs.LaidLaws.{bounds-none, bounds-next, rest-fields, old-joined, old-plain}
 use borrow.Author.Needs.{needs}
 use Rattle.append_columns.proofs.sheet.add_old.Statement.{statement}

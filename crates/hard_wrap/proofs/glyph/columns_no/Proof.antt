@@ -2,7 +2,7 @@
 use mathlib.Core.Path.{sym, _∙_}
 use native.Mathlib.Omega.{arith}
 use borrow.Author.Needs.{needs}
-use Rattle.hard_wrap.proofs.Glyphs.{cols-in}
+use Rattle.characters.proofs.Tables.{cols-in}
 use Rattle.hard_wrap.proofs.glyph.columns_no.Statement.{statement}
 use Rattle.hard_wrap.proofs.glyph.columns_no.Tie as tie
 
