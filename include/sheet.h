@@ -1,13 +1,23 @@
 /* Viseorchid: text wrapped into the lines of a sheet, and tables laid onto it.
  *
- * The calls of target/staticlib/libsheet_c.a, which `rt staticlib sheet_c` proves and builds. README.md describes
- * the house format of jobs, sheets, cells and prefixes.
+ * The calls of target/staticlib/libsheet_c.a, which `rt staticlib sheet_c` proves and builds; it needs memcpy and memset
+ * and nothing else. Inputs and sheets are fields: a letter, a length of two bytes, high byte first, and that many bytes.
+ *   job       W (width, flags: 1 pad, 2 allow overflow; annotation of padding), then any number of
+ *             T (mode: 0 Normal, 1 Pre, 2 PreWrap; annotation, annotation of what wraps in Pre, UTF-8 text) and F (name)
+ *   sheet     H (number of lines, two bytes), then so many L and B
+ *   line      L of S (annotation, text) and F (name); B (annotation, then a segment for each column, 0 to 11)
+ *   cells     C (width, then L and B); a cell's lines are a rendered sheet without its first five bytes
+ *   prefixes  P (text)
+ * README.md, "The house format", says more, and which characters a text may hold.
  *
  * Every call reads its inputs and writes a sheet into the lent store. It gives back a number:
  *   0       The sheet stands at the start of the store, and *length is its length in bytes. The store's bytes
  *           past the sheet are as they were.
  *   1 to 9  A refusal (enum sheet_refusal). The whole store is zeroed, and *length is 0; for refusal 8 it is the
  *           length that the store would need.
+ * A job's sheet has at most 5 + 15 u bytes, with pad 5 + (19 + width) u, u being its text and name bytes and one for each
+ * name; a store of no bytes gives 8 with the length needed.
+ *
  * A call takes every input, however damaged. It never fails otherwise, allocates nothing and keeps nothing; it uses
  * about 71 KB of stack, and calls from several threads do not disturb each other.
  *
@@ -64,8 +74,11 @@ uint8_t sheet_append_vert_row(const uint8_t *sheet, size_t sheet_length,
                               uint8_t width, bool pad, bool borders, uint8_t annotation,
                               uint8_t *store, size_t store_length, uint64_t *length);
 
-/* In the last three: `width` is the sheet's width in columns, `pad` fills each added line to it, `borders` draws the
- * borders and edges, and `annotation` marks what the call itself writes. */
+/* In the last three: `width` is the sheet's width in columns, which counts for padding and for the borders of
+ * sheet_append_vert_row; a row of cells is as wide as the cells and one column for each edge between them. `pad` fills
+ * each added line to the width and turns an added border into text, which a later row does not join: build tables
+ * without it. `borders` draws the borders and edges; without it edges are spaces, no border is added, and a border above
+ * is joined all the same. `annotation` marks what the call itself writes. */
 
 #ifdef __cplusplus
 }

@@ -6,7 +6,7 @@ use std::path::{Path, PathBuf};
 use std::{env, fs, process};
 
 /// Used when `HTML2TEXT_SRC` is not set; relative to this folder.
-const DEFAULT_SOURCE: &str = "../../shared/docs/src";
+const DEFAULT_SOURCE: &str = "../../html2text-0.17.4";
 
 const LIB: &str = "src/lib.rs";
 const MACROS: &str = "src/macros.rs";

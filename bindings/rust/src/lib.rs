@@ -5,7 +5,16 @@
 //! the store that a definition gives.
 //!
 //! A job, a sheet, cells and prefixes are bytes in the house format: a field is a letter, a
-//! length of two bytes, high byte first, and that many bytes. Each call writes a sheet into a
+//! length of two bytes, high byte first, and that many bytes.
+//!
+//! | input | fields |
+//! |---|---|
+//! | job | `W` (width, flags: 1 pad, 2 allow overflow; annotation of padding), then `T` (mode: 0 Normal, 1 Pre, 2 PreWrap; annotation, annotation of what wraps in Pre, UTF-8 text) and `F` (name) |
+//! | sheet | `H` (number of lines, two bytes), then so many `L` (`S`: annotation, text; `F`: name) and `B` (annotation, a segment for each column, 0 to 11) |
+//! | cells | `C` (width, then `L` and `B`: a sheet's lines, without the `H`) |
+//! | prefixes | `P` (text) |
+//!
+//! The repository's README.md says more, and which characters a text may hold. Each call writes a sheet into a
 //! store that the caller lends and gives its length, or a [`Refusal`]. On success the store's
 //! bytes past the sheet are as they were; on a refusal the whole store is zeroed. Nothing is
 //! allocated, and a call uses about 71 KB of stack.
@@ -20,6 +29,7 @@
 //! # Ok::<(), sheet::Refusal>(())
 //! ```
 
+#![no_std]
 #![deny(missing_docs)]
 
 mod archive;
@@ -33,11 +43,14 @@ pub type Answer = Result<usize, Refusal>;
 /// What comes with each call that lays lines onto a sheet.
 #[derive(Clone, Copy, Debug, PartialEq, Eq)]
 pub struct Setup {
-    /// The sheet's width in columns.
+    /// The sheet's width in columns. It counts for padding and for the borders of
+    /// [`append_vert_row`]; a row of cells is as wide as the cells and the edges between them.
     pub width: u8,
-    /// Are added lines filled with spaces to the width?
+    /// Are added lines filled with spaces to the width? An added border then becomes text, which
+    /// a later row does not join: build tables without it.
     pub pad: bool,
-    /// Are borders and the edges of cells drawn?
+    /// Are borders and the edges of cells drawn? If not, edges are spaces and no border is added,
+    /// but a border above is joined all the same.
     pub borders: bool,
     /// The annotation of what the call itself writes.
     pub annotation: u8,

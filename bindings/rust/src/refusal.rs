@@ -1,7 +1,7 @@
 //! Why a call wrote no sheet.
 
-use std::error::Error;
-use std::fmt;
+use core::error::Error;
+use core::fmt;
 
 /// Why a call wrote no sheet; the store is zeroed. Where several apply, 1 to 4 come first,
 /// over the whole input, then 5, 6, 7, 9 and 8.
@@ -81,7 +81,9 @@ impl fmt::Display for Refusal {
             Refusal::TooNarrow => "a character is wider than its line",
             Refusal::NoBorderAbove => "the sheet does not end in a border",
             Refusal::LongLine => "a line has more than 65,535 bytes",
-            Refusal::StoreShort(length) => return write!(out, "the sheet has {length} bytes"),
+            Refusal::StoreShort(length) => {
+                return write!(out, "the store is too short: the sheet has {length} bytes");
+            }
             Refusal::LongSheet => "the sheet has more than 65,535 lines",
         };
         out.write_str(words)
