@@ -1,4 +1,5 @@
--- Plain characters that go to the word at once: how they are taken, and what they do to the flat walk.
+-- Plain characters that go to the word at once: how they are taken, and what they do to the flat walk (document 01, "The wrapped
+-- block": in Pre a character past the width, and those after it, take the continued annotation).
 -- Assumes nothing: these are definitions.
 use mathlib.Core.Path.{_≡_}
 use mathlib.Core.Bool.{true}
