@@ -4,12 +4,10 @@
 #include <stdio.h>
 #include "sheet.h"
 
-/* the segments 0 to 11 of a border */
-static const char *const marks[12] = {"─", "┴", "┬", "┼", "│", "/", "┤", "├", "┌", "┐", "└", "┘"};
+static const char *const marks[12] = {"─", "┴", "┬", "┼", "│", "/", "┤", "├", "┌", "┐", "└", "┘"}; /* segments 0 to 11 */
 static uint8_t job[65536], store[65536];
 
-/* a field: a letter, a length of two bytes, and that many bytes */
-static size_t size_of(const uint8_t *field) { return (size_t)field[1] << 8 | field[2]; }
+static size_t size_of(const uint8_t *field) { return (size_t)field[1] << 8 | field[2]; } /* behind the letter, two bytes */
 
 static void show_text(const uint8_t *line) { /* an L field: the texts of its S fields, behind an annotation */
     for (size_t at = 3; at < 3 + size_of(line); at += 3 + size_of(line + at))

@@ -1,4 +1,4 @@
-// The lines of a row.
+// The lines of a row. What a function here requires, its callers in this crate show.
 use crate::cells::bottom_from;
 use add_line::lines::Lines;
 use add_line::lines::end_line;

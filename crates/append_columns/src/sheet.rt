@@ -1,4 +1,4 @@
-// The old sheet, the row and the border below it.
+// The old sheet, the row and the border below it. What a function here requires, its callers in this crate show.
 use crate::cells::place_cells;
 use crate::edges::join_edges;
 use crate::edges::merge_bottoms;

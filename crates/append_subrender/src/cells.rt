@@ -1,4 +1,4 @@
-// Cells below each other.
+// Cells below each other. What a function here requires, its callers in this crate show.
 use crate::prefixed::add_prefixed;
 use add_line::lines::Lines;
 use add_line::lines::add_border;

@@ -1,4 +1,4 @@
-// A guest's lines behind their prefixes.
+// A guest's lines behind their prefixes. What a function here requires, its callers in this crate show.
 use add_line::lines::Lines;
 use add_line::lines::end_line;
 use borders::draw::drawn_len;

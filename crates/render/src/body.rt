@@ -1,4 +1,4 @@
-// The fields of a job after its W, each added to the block.
+// The fields of a job after its W, each added to the block. What a function here requires, its callers in this crate show.
 use add_text::text::add_element;
 use add_text::text::add_text;
 use add_text::walk::Run;

@@ -1,4 +1,4 @@
-// The block's lines in the store.
+// The block's lines in the store. What a function here requires, its callers in this crate show.
 use crate::body::add_fields;
 use flush_word::state::Flushed;
 use flush_word::state::State;
