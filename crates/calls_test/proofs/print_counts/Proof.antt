@@ -1,14 +1,14 @@
--- `rows_test::print_counts` is safe and ends. The loop's invariant: the number is at most 256. The measure is what it can still grow by. Assumes nothing.
+-- `calls_test::print_counts` is safe and ends. The loop's invariant: the number is at most 256. The measure is what it can still grow by. Assumes nothing.
 use borrow.Author.Needs.{needs}
 use Prim.Native.Nat.{_≤_, _-_}
-use Rattle.rows_test.proofs.print_counts.Statement.{statement}
-use Rattle.rows_test.proofs.print_counts.Tie as tie
+use Rattle.calls_test.proofs.print_counts.Statement.{statement}
+use Rattle.calls_test.proofs.print_counts.Tie as tie
 
 abbrev Inv-loop : tie.InvT-loop
-Inv-loop counts number₀ number = number ≤ 256
+Inv-loop word counts number₀ number = number ≤ 256
 
 abbrev μ-loop : tie.MeasureT-loop
-μ-loop counts number₀ number = 256 - number
+μ-loop word counts number₀ number = 256 - number
 
 loop-holds : tie.Need-loop-holds Inv-loop μ-loop
 loop-holds c = search needs

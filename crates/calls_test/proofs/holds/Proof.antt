@@ -1,9 +1,9 @@
--- `jobs_test::holds` is safe and ends. The loop's invariant: the place is within the store. The measure is what is left of it. Assumes nothing.
+-- `calls_test::holds` is safe and ends. The loop's invariant: the place is within the store. The measure is what is left of it. Assumes nothing.
 use borrow.Author.Needs.{needs}
 use Prim.Native.Nat.{_≤_, _-_}
 use lib.ListN.{length}
-use Rattle.jobs_test.proofs.holds.Statement.{statement}
-use Rattle.jobs_test.proofs.holds.Tie as tie
+use Rattle.calls_test.proofs.holds.Statement.{statement}
+use Rattle.calls_test.proofs.holds.Tie as tie
 
 abbrev Inv-loop : tie.InvT-loop
 Inv-loop store sheet past i₀ i = i ≤ length store

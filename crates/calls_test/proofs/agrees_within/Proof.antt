@@ -1,9 +1,9 @@
--- `rows_test::agrees_within` is safe and ends. Each part that it lends has the length asked, since its space is no shorter. Assumes nothing.
+-- `calls_test::agrees_within` is safe and ends. Each part that it lends has the length asked, since its space is no shorter. Assumes nothing.
 use borrow.Author.Needs.{needs}
 use native.Mathlib.Omega.{arith}
 use lib.ListN.{length-take}
-use Rattle.rows_test.proofs.agrees_within.Statement.{statement}
-use Rattle.rows_test.proofs.agrees_within.Tie as tie
+use Rattle.calls_test.proofs.agrees_within.Statement.{statement}
+use Rattle.calls_test.proofs.agrees_within.Tie as tie
 
 returns : tie.Need-returns
 returns c = search needs

@@ -1,9 +1,9 @@
--- `rows_test::read_input` is safe and ends. The part that it lends has the input's length, since the space is no shorter. Assumes nothing.
+-- `calls_test::read_input` is safe and ends. The part that it lends has the input's length, since the space is no shorter. Assumes nothing.
 use borrow.Author.Needs.{needs}
 use native.Mathlib.Omega.{arith}
 use lib.ListN.{length-take}
-use Rattle.rows_test.proofs.read_input.Statement.{statement}
-use Rattle.rows_test.proofs.read_input.Tie as tie
+use Rattle.calls_test.proofs.read_input.Statement.{statement}
+use Rattle.calls_test.proofs.read_input.Tie as tie
 
 read-length-requires : tie.Need-read-length-requires
 read-length-requires c κs = search needs

@@ -1,18 +1,18 @@
--- `rows_test::replay_within` is safe and ends. Each part that it lends has its input's length, since its space is no shorter. Assumes nothing.
+-- `calls_test::replay_within` is safe and ends. Each part that it lends has its input's length, since its space is no shorter. Assumes nothing.
 use borrow.Author.Needs.{needs}
 use native.Mathlib.Omega.{arith}
 use lib.ListN.{length-take}
-use Rattle.rows_test.proofs.replay_within.Statement.{statement}
-use Rattle.rows_test.proofs.replay_within.Tie as tie
+use Rattle.calls_test.proofs.replay_within.Statement.{statement}
+use Rattle.calls_test.proofs.replay_within.Tie as tie
 
 read-input-requires : tie.Need-read-input-requires
 read-input-requires c κs = search needs
 
-read-input-requires-2 : tie.Need-read-input-requires-2
-read-input-requires-2 c κs = search needs
+read-further-requires : tie.Need-read-further-requires
+read-further-requires c κs = search needs
 
-read-third-requires : tie.Need-read-third-requires
-read-third-requires c κs = search needs
+read-further-requires-2 : tie.Need-read-further-requires-2
+read-further-requires-2 c κs = search needs
 
 same-length : tie.Need-same-length
 same-length c = search needs
@@ -94,8 +94,8 @@ replay-within-spec =
     tie.close
     (tie.spec
     read-input-requires
-    read-input-requires-2
-    read-third-requires
+    read-further-requires
+    read-further-requires-2
     same-length
     same-length-2
     same-length-3

@@ -1,10 +1,10 @@
--- `rows_test::fill` is safe and ends. The loop's invariant: the store keeps its length, and the place is within it. The measure is what is left of it. Assumes nothing.
+-- `calls_test::fill` is safe and ends. The loop's invariant: the store keeps its length, and the place is within it. The measure is what is left of it. Assumes nothing.
 use borrow.Author.Needs.{needs}
 use Prim.Native.Nat.{_≤_, _-_}
 use mathlib.Core.Path.{_≡_}
 use lib.ListN.{length}
-use Rattle.rows_test.proofs.fill.Statement.{statement}
-use Rattle.rows_test.proofs.fill.Tie as tie
+use Rattle.calls_test.proofs.fill.Statement.{statement}
+use Rattle.calls_test.proofs.fill.Tie as tie
 
 abbrev Inv-loop : tie.InvT-loop
 Inv-loop store₀ i₀ store i = (length store ≡ length store₀) × (i ≤ length store₀)

@@ -1,16 +1,16 @@
--- `rows_test::replay_all` is safe and ends. The loop's invariant: the spaces keep their lengths, and no more records differ than there were. The measure is what the count of records can still grow by. Assumes nothing.
+-- `calls_test::replay_all` is safe and ends. The loop's invariant: the spaces keep their lengths, and no more records differ than there were. The measure is what the count of records can still grow by. Assumes nothing.
 use borrow.Author.Needs.{needs}
 use Prim.Native.Nat.{_≤_, _-_, _^_}
 use mathlib.Core.Path.{_≡_}
 use lib.ListN.{length}
-use Rattle.rows_test.proofs.replay_all.Statement.{statement}
-use Rattle.rows_test.proofs.replay_all.Tie as tie
+use Rattle.calls_test.proofs.replay_all.Statement.{statement}
+use Rattle.calls_test.proofs.replay_all.Tie as tie
 
 abbrev Inv-loop : tie.InvT-loop
-Inv-loop olds₀ guests₀ lists₀ sheets₀ stores₀ counts₀ records₀ differences₀ olds guests lists sheets stores counts records differences = (length olds ≡ length olds₀) × (length guests ≡ length guests₀) × (length lists ≡ length lists₀) × (length sheets ≡ length sheets₀) × (length stores ≡ length stores₀) × (differences ≤ records)
+Inv-loop olds₀ guests₀ lists₀ sheets₀ stores₀ kinds₀ numbers₀ records₀ differences₀ olds guests lists sheets stores kinds numbers records differences = (length olds ≡ length olds₀) × (length guests ≡ length guests₀) × (length lists ≡ length lists₀) × (length sheets ≡ length sheets₀) × (length stores ≡ length stores₀) × (differences ≤ records)
 
 abbrev μ-loop : tie.MeasureT-loop
-μ-loop olds₀ guests₀ lists₀ sheets₀ stores₀ counts₀ records₀ differences₀ olds guests lists sheets stores counts records differences = 2 ^ 64 - records
+μ-loop olds₀ guests₀ lists₀ sheets₀ stores₀ kinds₀ numbers₀ records₀ differences₀ olds guests lists sheets stores kinds numbers records differences = 2 ^ 64 - records
 
 loop-holds : tie.Need-loop-holds Inv-loop μ-loop
 loop-holds c = search needs
@@ -26,6 +26,9 @@ add-records c = search needs
 
 count-requires : tie.Need-count-requires Inv-loop μ-loop
 count-requires c κs = search needs
+
+count-requires-2 : tie.Need-count-requires-2 Inv-loop μ-loop
+count-requires-2 c κs = search needs
 
 loop-less : tie.Need-loop-less Inv-loop μ-loop
 loop-less c = search needs
@@ -98,6 +101,7 @@ replay-all-spec =
     enum-known-turn
     add-records
     count-requires
+    count-requires-2
     loop-less
     loop-again
     enum-told

@@ -1,12 +1,17 @@
-// Replays stored calls on a sheet with their answers. The file on standard input is made by `oracle vectors` and is a list of
-// records: the kind (1 `append_subrender`, 2 `append_columns_with_borders`, 3 `append_vert_row`); the sheet's width, flags (bit 0
-// pad, bit 1 borders, bit 2 "the last prefix repeats" or collapse), annotation and two zeros; two inputs, for kind 1 three, each a length
-// of three bytes and that many bytes; the store's length in three bytes; the number; a length of four bytes; and, if the number
-// is 0, the sheet. The store is filled with EE before the call, and number, length and every byte of the store are compared.
-// An input, a sheet or a store of more than 262,144 bytes is not read; the five spaces take 1,310,720 bytes of stack.
-// The committed file, crates/rows_test/stdin, has stores of at most 65,536 bytes, but for three records at the limits. It was made by
+// Replays stored calls with their answers. The file on standard input is made by `oracle vectors` and is a list of records: the kind (0 a
+// job for `render`, 1 `append_subrender`, 2 `append_columns_with_borders`, 3 `append_vert_row`); the sheet's width, flags (bit 0 pad,
+// bit 1 borders, bit 2 "the last prefix repeats" or collapse), annotation and two zeros, all zero for a job; the inputs, one for a job, three
+// for kind 1 and two else, each a length of three bytes and that many bytes; the store's length in three bytes; the number; a length of
+// four bytes; and, if the number is 0, the sheet. The store is filled with EE before the call, and number, length and every byte of the
+// store are compared. An input, a sheet or a store of more than 262,144 bytes is not read; the five spaces take 1,310,720 bytes of stack.
+// The committed file, crates/calls_test/stdin, has stores of at most 65,536 bytes, but for three records at the limits. It was made by
 // these, in order:
-//   oracle vectors rows 1 6600 240
+//   oracle vectors short 0 12768          jobs: every text of up to 2 characters
+//   oracle vectors short 1 20077          every seventh of up to 3
+//   oracle vectors random 3 3000 300
+//   oracle vectors random 1800 500 20000  some with 4,096 and 4,097 units
+//   oracle vectors damaged 4 1600 300
+//   oracle vectors rows 1 6600 240        calls on a sheet
 //   oracle vectors rows 2 1000 1500
 //   oracle vectors rows 129 400 12000     some with 16 and 17 cells
 //   oracle vectors rows-damaged 4 2000 300
@@ -30,6 +35,7 @@ use fields::answer::Rendered;
 use fields::field::wide;
 use libc::STDIN_FILENO;
 use libc::STDOUT_FILENO;
+use render::render;
 use rows::Setup;
 ghost use Prim.Native.Nat.{_<_};
 
@@ -45,7 +51,7 @@ struct Call {
 
 // What a record starts with; the file can also end here, or in the middle of it.
 enum Head {
-    Row(Call),
+    Asked(Call),
     Unread,
     End,
 }
@@ -65,7 +71,7 @@ enum Tail {
 
 // What one record comes to; the number if it is the same.
 enum Turn {
-    Same(u8),
+    Same { kind: u8, number: u8 },
     Different,
     End,
 }
@@ -90,11 +96,11 @@ fn read_head() -> Head {
     if got == 0 {
         return Head::End;
     }
-    if got != 6 || head[0] == 0 || 3 < head[0] {
+    if got != 6 || 3 < head[0] {
         return Head::Unread;
     }
     let flags = head[2];
-    Head::Row(Call {
+    Head::Asked(Call {
         kind: head[0],
         setup: Setup {
             width: head[1],
@@ -147,9 +153,9 @@ fn read_input(space: &mut [u8]) -> usize {
     }
 }
 
-// The same for the third input, which a record of kind 1 alone has.
-fn read_third(kind: u8, space: &mut [u8]) -> usize {
-    if kind == 1 {
+// The same for the second input, which a job has not, and for the third, which a record of kind 1 alone has.
+fn read_further(there: bool, space: &mut [u8]) -> usize {
+    if there {
         return read_input(space);
     }
     0
@@ -190,11 +196,12 @@ fn says(rendered: Rendered, answer: Answer) -> bool {
     }
 }
 
-// The call that a record asks for. The second input is a guest sheet or cells; `append_subrender` alone has a third.
+// The call that a record asks for. The first input is a job or a sheet, the second a guest sheet or cells; `append_subrender` alone has a third.
 fn run(call: Call, old: &[u8], guest: &[u8], prefixes: &[u8], store: &mut [u8]) -> Rendered {
     let kind = call.kind;
     let setup = call.setup;
     match kind {
+        0 => render(old, store),
         1 => append_subrender(setup, old, guest, prefixes, call.flag, store),
         2 => append_columns_with_borders(setup, old, guest, call.flag, store),
         _ => append_vert_row(setup, old, guest, store),
@@ -272,7 +279,10 @@ fn replay_call(
     match tail {
         Tail::Asks(answer) => {
             if agrees_within(call, old, guest, prefixes, answer, sheets, stores) {
-                Turn::Same(answer.number)
+                Turn::Same {
+                    kind: call.kind,
+                    number: answer.number,
+                }
             } else {
                 Turn::Different
             }
@@ -291,8 +301,8 @@ fn replay_within(
     stores: &mut [u8],
 ) -> Turn {
     let old = read_input(olds);
-    let guest = read_input(guests);
-    let list = read_third(call.kind, lists);
+    let guest = read_further(call.kind != 0, guests);
+    let list = read_further(call.kind == 1, lists);
     if olds.len() < old {
         return Turn::Different;
     }
@@ -322,13 +332,13 @@ fn replay(
 ) -> Turn {
     let head = read_head();
     match head {
-        Head::Row(call) => replay_within(call, olds, guests, lists, sheets, stores),
+        Head::Asked(call) => replay_within(call, olds, guests, lists, sheets, stores),
         Head::Unread => Turn::Different,
         Head::End => Turn::End,
     }
 }
 
-// Counts a number.
+// Counts a number, a kind's or an answer's.
 fn count(counts: &mut [u64; 256], number: u8) {
     let at = wide(number);
     counts[at] = std::num::wrapping_add_u64(counts[at], 1);
@@ -341,16 +351,18 @@ fn replay_all(
     lists: &mut [u8],
     sheets: &mut [u8],
     stores: &mut [u8],
-    counts: &mut [u64; 256],
+    kinds: &mut [u64; 256],
+    numbers: &mut [u64; 256],
 ) -> Tally {
     let mut records: u64 = 0;
     let mut differences: u64 = 0;
     while records < u64::MAX {
         let turn = replay(olds, guests, lists, sheets, stores);
         match turn {
-            Turn::Same(number) => {
+            Turn::Same { kind, number } => {
                 records += 1;
-                count(counts, number);
+                count(kinds, kind);
+                count(numbers, number);
             }
             Turn::Different => {
                 records += 1;
@@ -374,20 +386,20 @@ fn print(word: &[u8], n: u64) {
     io::write_all(STDOUT_FILENO, b"\n");
 }
 
-// Writes how often a number came, if it came.
-fn print_count(number: u64, n: u64) {
+// Writes how often a number came, if it came, behind a word.
+fn print_count(word: &[u8], number: u64, n: u64) {
     if n != 0 {
-        io::write_all(STDOUT_FILENO, b"number ");
+        io::write_all(STDOUT_FILENO, word);
         io::print_decimal(STDOUT_FILENO, number);
         print(b": ", n);
     }
 }
 
 // The same for each number.
-fn print_counts(counts: &[u64; 256]) {
+fn print_counts(word: &[u8], counts: &[u64; 256]) {
     let mut number: usize = 0;
     while number < 256 {
-        print_count(number as u64, counts[number]);
+        print_count(word, number as u64, counts[number]);
         number += 1;
     }
 }
@@ -398,16 +410,19 @@ fn main() {
     let mut lists = [0u8; 262144];
     let mut sheets = [0u8; 262144];
     let mut stores = [0u8; 262144];
-    let mut counts = [0u64; 256];
+    let mut kinds = [0u64; 256];
+    let mut numbers = [0u64; 256];
     let tally = replay_all(
         &mut olds,
         &mut guests,
         &mut lists,
         &mut sheets,
         &mut stores,
-        &mut counts,
+        &mut kinds,
+        &mut numbers,
     );
-    print(b"calls: ", tally.records);
-    print_counts(&counts);
+    print(b"records: ", tally.records);
+    print_counts(b"kind ", &kinds);
+    print_counts(b"number ", &numbers);
     print(b"differences: ", tally.differences);
 }
