@@ -4,6 +4,7 @@ use mathlib.Core.Path.{_≡_, sym, ap, _∙_}
 use mathlib.Core.List.{List, [], _∷_, _++_}
 use mathlib.Core.Logic.{⊎-elim}
 use Prim.Native.Nat.{ℕ, suc, _+_, _-_, _≤_, _<_}
+use native.Mathlib.Nat.{sub-self}
 use native.Mathlib.Omega.{arith}
 use lib.ListN.{length, take, drop, getD, length-drop}
 use lib.Seq.{length-take-le, take-add, take-take, drop-append-seam, drop-cons}
@@ -35,9 +36,10 @@ pub part-inside : (start end : ℕ) (s : List ℕ) → start ≤ end → end ≤
 unfolding partOf
 part-inside start end s h k = rw (le-ltb end start h, le-ltb (length s) end k)
 
--- Nothing stands from 0 to 0.
-pub part-zero : (s : List ℕ) → partOf 0 0 s ≡ []
-part-zero s = sym (part-inside 0 0 s (omega arith) (omega arith))
+-- Nothing stands from a place to itself.
+pub part-empty : (at : ℕ) (s : List ℕ) → partOf at at s ≡ []
+part-empty at s =
+    ⊎-elim (λ h. sym (part-outside at at s (omega arith) h)) (λ h. rw (← part-inside at at s (omega arith) h, sub-self at)) (lt-or-le (length s) at)
 
 -- A part before the cut is a part of the whole list.
 pub part-cut : (start next end : ℕ) (s : List ℕ) → start ≤ next → next ≤ end → end ≤ length s

@@ -50,12 +50,19 @@ asLine s field.End = line.End
 unfoldable pub lineAt : ℕ → List ℕ → Line
 lineAt at s = asLine s (fieldAt at (drop at s))
 
--- the text of a piece, or its name
+-- the text of a piece; that of a name is empty
 unfoldable pub textOf : Piece → List ℕ → List ℕ
 textOf (piece.Text a start end) s = partOf start end s
-textOf (piece.Name start end) s = partOf start end s
+textOf (piece.Name start end) s = []
 textOf piece.Broken s = []
 textOf piece.End s = []
+
+-- the name of a piece; that of a text is empty
+unfoldable pub nameOf : Piece → List ℕ → List ℕ
+nameOf (piece.Text a start end) s = []
+nameOf (piece.Name start end) s = partOf start end s
+nameOf piece.Broken s = []
+nameOf piece.End s = []
 
 -- ---- a walk, as a reader makes it
 

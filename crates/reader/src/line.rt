@@ -2,7 +2,7 @@
 use fields::field::Field;
 use fields::field::field_at;
 ghost use mathlib.Core.Path.{_≡_};
-ghost use Rattle.reader.specs.Reading.{pieceAt, lineAt, partOf, textOf};
+ghost use Rattle.reader.specs.Reading.{pieceAt, lineAt, partOf, textOf, nameOf};
 
 // A piece of a line: a text with its annotation or a name, from one place to another, where the next piece stands; the end of the line; or
 // what is no piece.
@@ -116,7 +116,7 @@ pub fn part_of<'a>(sheet: &'a [u8], start: usize, end: usize) -> &'a [u8]
     &sheet[start..end]
 }
 
-// The text of a piece, or its name, as a part of the sheet's own bytes.
+// The text of a piece as a part of the sheet's own bytes; a name has none.
 pub fn text_of<'a>(sheet: &'a [u8], piece: Piece) -> &'a [u8]
     ensures { λ r. ⌜ now r ≡ textOf piece (now (sheet .entry)) ⌝ }
 {
@@ -126,6 +126,22 @@ pub fn text_of<'a>(sheet: &'a [u8], piece: Piece) -> &'a [u8]
             start,
             end,
         } => part_of(sheet, start, end),
+        Piece::Name { start, end: _ } => part_of(sheet, start, start),
+        Piece::Broken => part_of(sheet, 0, 0),
+        Piece::End => part_of(sheet, 0, 0),
+    }
+}
+
+// The name of a piece as a part of the sheet's own bytes; a text has none.
+pub fn name_of<'a>(sheet: &'a [u8], piece: Piece) -> &'a [u8]
+    ensures { λ r. ⌜ now r ≡ nameOf piece (now (sheet .entry)) ⌝ }
+{
+    match piece {
+        Piece::Text {
+            annotation: _,
+            start,
+            end: _,
+        } => part_of(sheet, start, start),
         Piece::Name { start, end } => part_of(sheet, start, end),
         Piece::Broken => part_of(sheet, 0, 0),
         Piece::End => part_of(sheet, 0, 0),

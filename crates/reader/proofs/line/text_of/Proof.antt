@@ -1,9 +1,9 @@
--- `reader::line::text_of` meets its contract: the part between the piece's places.
+-- `reader::line::text_of` meets its contract: the part between a text's places.
 -- Assumes nothing.
 use mathlib.Core.Path.{_∙_}
 use borrow.Author.Needs.{needs}
 use Rattle.reader.specs.Reading.{textOf}
-use Rattle.reader.proofs.Places.{part-zero}
+use Rattle.reader.proofs.Places.{part-empty}
 use Rattle.reader.proofs.line.text_of.Statement.{statement}
 use Rattle.reader.proofs.line.text_of.Tie as tie
 
@@ -37,15 +37,15 @@ returns c = rw (c .before .before .piece .given .1) (c .part-of .ensures)
 
 returns-2 : tie.Need-returns-2
 unfolding textOf
-returns-2 c = rw (c .before .before .piece2 .given .1) (c .part-of2 .ensures)
+returns-2 c = rw (c .before .before .piece2 .given .1) (c .part-of2 .ensures ∙ part-empty _ _)
 
 returns-3 : tie.Need-returns-3
 unfolding textOf
-returns-3 c = rw (c .before .enum-told .given .1) (c .part-of3 .ensures ∙ part-zero _)
+returns-3 c = rw (c .before .enum-told .given .1) (c .part-of3 .ensures ∙ part-empty _ _)
 
 returns-4 : tie.Need-returns-4
 unfolding textOf
-returns-4 c = rw (c .before .enum-told2 .given .1) (c .part-of4 .ensures ∙ part-zero _)
+returns-4 c = rw (c .before .enum-told2 .given .1) (c .part-of4 .ensures ∙ part-empty _ _)
 
 pub text-of-spec : {M : Type 1} → statement M
 text-of-spec =
