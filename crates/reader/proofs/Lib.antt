@@ -1,2 +1,4 @@
+pub mod CallsLine
+pub mod Held
 pub mod Places
 pub mod Walked

@@ -1,22 +1,25 @@
 -- Laws of the parts, pieces and lines that stand at places of a byte list.
 -- Assumes nothing.
-use mathlib.Core.Path.{_≡_, sym, ap, _∙_}
-use mathlib.Core.List.{List, [], _∷_, _++_}
+use mathlib.Core.Path.{_≡_, refl, sym, ap, subst, _∙_}
+use mathlib.Core.List.{List, []}
 use mathlib.Core.Logic.{⊎-elim}
-use Prim.Native.Nat.{ℕ, suc, _+_, _-_, _≤_, _<_}
+use Prim.Native.Nat.{ℕ, _+_, _-_, _≤_, _<_}
 use native.Mathlib.Nat.{sub-self}
 use native.Mathlib.Omega.{arith}
-use lib.ListN.{length, take, drop, getD, length-drop}
-use lib.Seq.{length-take-le, take-add, take-take, drop-append-seam, drop-cons}
-use borrow.Author.Tests.{lt-ltb, le-ltb, le-leb, lt-leb, ne-eqb}
-use Rattle.characters.proofs.Tests.{lt-or-le}
+use lib.Dec.{leb, ltb, eqb}
+use lib.ListN.{length, take, drop, getD}
+use lib.Seq.{length-take-le, take-take}
+use borrow.Author.Tests.{lt-ltb, le-ltb, le-leb, lt-leb, ne-eqb, ltb-false, leb-false}
+use Rattle.characters.proofs.Tests.{by-if, lt-or-le}
 use Rattle.fields.specs.Field.{fieldAt}
 use Rattle.fields.specs.declared.field.Field.{Field}
 use Rattle.fields.specs.declared.field.Field.the-variants as field
 use Rattle.fields.proofs.Fields.{FieldIs, field-is, at-end}
 use Rattle.fields.proofs.Parts.{drop-take}
-use Rattle.reader.specs.Reading.{partOf, asPiece, pieceAt, asLine, lineAt}
+use Rattle.reader.specs.Reading.{partOf, asPiece, pieceAt, asLine, lineAt, endOf, lineEnd}
+use Rattle.reader.specs.declared.line.Piece.{Piece}
 use Rattle.reader.specs.declared.line.Piece.the-variants as piece
+use Rattle.reader.specs.declared.line.Line.{Line}
 use Rattle.reader.specs.declared.line.Line.the-variants as line
 
 -- ---- parts
@@ -66,7 +69,7 @@ piece-outside at end s h = rw (lt-ltb (length s) end h)
 -- A line in the list: the piece is what its field is.
 pub piece-is : (at end : ℕ) (s : List ℕ) (f : Field) → end ≤ length s → fieldAt at (drop at (take end s)) ≡ f → asPiece s f ≡ pieceAt at end s
 unfolding pieceAt
-piece-is at end s f h e = rw (le-ltb (length s) end h, e)
+piece-is at end s f h e = rw (le-ltb (length s) end h) (ap (asPiece s) (sym e))
 
 module _ (at end : ℕ) (s : List ℕ) (l start next : ℕ) (h : end ≤ length s) (e : fieldAt at (drop at (take end s)) ≡ field.At l start next) where
   -- A name.
@@ -108,3 +111,68 @@ module _ (at : ℕ) (s : List ℕ) (l start next : ℕ) (e : fieldAt at (drop at
   -- A border.
   pub line-border : l ≡ 0x42 → start < next → line.Border (getD s start 0) (start + 1) (next - (start + 1)) ≡ lineAt at s
   line-border k m = rw (k, lt-leb next start m) at (line-is at s (field.At l start next) e)
+
+-- ---- where pieces and lines end
+
+-- a piece at a place of a line ends behind the place and not behind the line
+abbrev pub PieceFits : ℕ → ℕ → Piece → Type 0
+PieceFits at end (piece.Text a start next) = (at < next) × (next ≤ end)
+PieceFits at end (piece.Name start next) = (at < next) × (next ≤ end)
+PieceFits at end piece.Broken = Unit {0}
+PieceFits at end piece.End = Unit {0}
+
+pub piece-fits : (at end : ℕ) (s : List ℕ) → PieceFits at end (pieceAt at end s)
+unfolding pieceAt
+piece-fits at end s =
+    by-if (PieceFits at end) (ltb (length s) end) (λ e. tt) (λ e. go (ltb-false (length s) end e) (fieldAt at (drop at (take end s))) refl)
+  where
+    go : end ≤ length s → (f : Field) → fieldAt at (drop at (take end s)) ≡ f → PieceFits at end (asPiece s f)
+    go h (field.At l start next) e =
+        let g = found (take end s) at l start next e in
+        let k : (at < next) × (next ≤ end) = (omega (arith, g .begins, g .order), rw (length-take-le end s h) at (g .inside)) in
+        by-if (PieceFits at end) (eqb l 0x46) (λ _. k)
+        (λ _. by-if (PieceFits at end) (eqb l 0x53) (λ _. by-if (PieceFits at end) (ltb (next - start) 2) (λ _. tt) (λ _. k)) (λ _. tt))
+    go h field.Broken e = tt
+    go h field.End e = tt
+
+-- a line at a place ends behind the place and in the list
+abbrev pub LineFits : ℕ → List ℕ → Line → Type 0
+LineFits at s (line.Text p end) = (at < end) × (end ≤ length s)
+LineFits at s (line.Border a place n) = (at < place + n) × (place + n ≤ length s)
+LineFits at s line.Broken = Unit {0}
+LineFits at s line.End = Unit {0}
+
+pub line-fits : (at : ℕ) (s : List ℕ) → LineFits at s (lineAt at s)
+unfolding lineAt
+line-fits at s = go (fieldAt at (drop at s)) refl
+  where
+    go : (f : Field) → fieldAt at (drop at s) ≡ f → LineFits at s (asLine s f)
+    go (field.At l start next) e =
+        let g = found s at l start next e in
+        by-if (LineFits at s) (eqb l 0x4C) (λ _. (omega (arith, g .begins, g .order), g .inside))
+        (λ _. by-if (LineFits at s) (eqb l 0x42)
+        (λ _. by-if (LineFits at s) (leb next start) (λ _. tt)
+        (λ k. let m : start < next = leb-false next start k in (omega (arith, g .begins), omega (arith, g .inside))))
+        (λ _. tt))
+    go field.Broken e = tt
+    go field.End e = tt
+
+-- A border ends in the list.
+pub border-inside : (at : ℕ) (s : List ℕ) (a place n : ℕ) → lineAt at s ≡ line.Border a place n → place + n ≤ length s
+border-inside at s a place n e = subst (LineFits at s) e (line-fits at s) .1
+
+-- The end is that of the line.
+pub line-end-is : (at : ℕ) (s : List ℕ) (l : Line) → lineAt at s ≡ l → endOf at l ≡ lineEnd at s
+unfolding lineEnd
+line-end-is at s l e = rw e
+
+-- The line at a place ends in the list.
+pub line-end-inside : (at : ℕ) (s : List ℕ) → at ≤ length s → lineEnd at s ≤ length s
+unfolding lineEnd
+line-end-inside at s h = go (lineAt at s) (line-fits at s)
+  where
+    go : (l : Line) → LineFits at s l → endOf at l ≤ length s
+    go (line.Text p end) k = k .1
+    go (line.Border a place n) k = k .1
+    go line.Broken k = h
+    go line.End k = h

@@ -20,7 +20,7 @@ use Rattle.fields.proofs.Fields.{field-broken, field-end, at-end}
 use Rattle.fields.proofs.Readings.{read-first, read-none}
 use Rattle.fields.proofs.Parts.{part-length, part-cons, drop-take}
 use Rattle.reader.specs.Reading.{partOf, pieceAt, lineAt, piecesFrom, linesFrom, walked, WalksBack}
-use Rattle.reader.proofs.Places.{part-inside, part-cut, found, piece-is, piece-name, piece-text, line-is, line-text, line-border}
+use Rattle.reader.proofs.Places.{part-inside, part-cut, found, piece-is, piece-name, piece-text, line-is, line-text, line-border, line-end-is}
 
 -- ---- a list that is read
 
@@ -124,11 +124,12 @@ line-of letter t l e = go (eqb letter 0x4C) refl (eqb letter 0x42) refl e
 module _ (s : List ℕ) where
   -- A line that is found is the first one of the walk.
   line-first : (fuel at l start next : ℕ) (r : RenderLine) → start ≤ next → next ≤ length s → fieldAt at (drop at s) ≡ field.At l start next
-      → LineOf l (part start next s) r → linesFrom (suc fuel) (lineAt at s) s ≡ r ∷ linesFrom fuel (lineAt next s) s
+      → LineOf l (part start next s) r → linesFrom (suc fuel) at s ≡ r ∷ linesFrom fuel next s
   unfolding linesFrom
   line-first fuel at l start next r o k e (is-text ps x y w) =
       let b = pieces-back s next k (length s) start ps (omega arith) (rw (drop-take start next s o k) y) in
-      rw (← line-text at s l start next e x, b, w)
+      let f = line-text at s l start next e x in
+      rw (← line-end-is at s _ (sym f), ← f, b, w)
   line-first fuel at l start next r o k e (is-border a segs x y w) =
       let n = part-length start next s k in
       let m : length (part start next s) ≡ suc (length segs) = ap length y in
@@ -136,13 +137,14 @@ module _ (s : List ℕ) where
       let j : start + 1 + (next - (start + 1)) ≡ next = omega arith in
       let q : border (getD s start 0) (partOf (start + 1) next s) ≡ r =
       ap (border (getD s start 0)) (sym (part-inside (start + 1) next s (omega arith) k)) ∙ cc in
-      rw (← line-border at s l start next e x (omega arith), j, q)
+      let f = line-border at s l start next e x (omega arith) in
+      rw (← line-end-is at s _ (sym f), ← f, j, q)
 
   -- The lines of a sheet, from a place on.
   abbrev LinesBack : ℕ → Type 0
   LinesBack fuel =
       (at : ℕ) (ls : List RenderLine) → length s ≤ at + fuel → readAll readLine (raws (drop at s)) ≡ some ls
-      → linesFrom fuel (lineAt at s) s ≡ ls
+      → linesFrom fuel at s ≡ ls
 
   lines-back : (fuel : ℕ) → LinesBack fuel
   unfolding linesFrom readLine
@@ -150,7 +152,7 @@ module _ (s : List ℕ) where
       sym (read-none readLine ls (rw (field-end s at (sym (at-end s at (omega arith)))) at e))
   lines-back (suc fuel) at ls m e = go (lines-back fuel) (fieldAt at (drop at s)) refl
     where
-      go : LinesBack fuel → (f : Field) → fieldAt at (drop at s) ≡ f → linesFrom (suc fuel) (lineAt at s) s ≡ ls
+      go : LinesBack fuel → (f : Field) → fieldAt at (drop at s) ≡ f → linesFrom (suc fuel) at s ≡ ls
       go again (field.At l start next) k =
           let g = found s at l start next k in
           let r = read-first readLine _ (raws (drop next s)) ls (rw (g .fields) at e) in

@@ -50,6 +50,17 @@ asLine s field.End = line.End
 unfoldable pub lineAt : ℕ → List ℕ → Line
 lineAt at s = asLine s (fieldAt at (drop at s))
 
+-- where a line that stands at a place ends
+abbrev pub endOf : ℕ → Line → ℕ
+endOf at (line.Text p end) = end
+endOf at (line.Border a place n) = place + n
+endOf at line.Broken = at
+endOf at line.End = at
+
+-- the place where the line at a place ends, which is where the next one stands; the place itself where there is no line
+unfoldable pub lineEnd : ℕ → List ℕ → ℕ
+lineEnd at s = endOf at (lineAt at s)
+
 -- the text of a piece; that of a name is empty
 unfoldable pub textOf : Piece → List ℕ → List ℕ
 textOf (piece.Text a start end) s = partOf start end s
@@ -74,17 +85,21 @@ piecesFrom (suc fuel) (piece.Name start next) end s = fragment (partOf start nex
 piecesFrom (suc fuel) piece.Broken end s = []
 piecesFrom (suc fuel) piece.End end s = []
 
--- a line and those after it
-unfoldable pub linesFrom : ℕ → Line → List ℕ → List RenderLine
-linesFrom zero l s = []
-linesFrom (suc fuel) (line.Text p end) s = text (piecesFrom (length s) p end s) ∷ linesFrom fuel (lineAt end s) s
-linesFrom (suc fuel) (line.Border a place n) s = border a (partOf place (place + n) s) ∷ linesFrom fuel (lineAt (place + n) s) s
-linesFrom (suc fuel) line.Broken s = []
-linesFrom (suc fuel) line.End s = []
+-- a line in front of those after it; what is no line, and the end, have none after them
+abbrev pub lineThen : List ℕ → Line → List RenderLine → List RenderLine
+lineThen s (line.Text p end) ls = text (piecesFrom (length s) p end s) ∷ ls
+lineThen s (line.Border a place n) ls = border a (partOf place (place + n) s) ∷ ls
+lineThen s line.Broken ls = []
+lineThen s line.End ls = []
+
+-- the lines from a place on, each where the one before it ends
+unfoldable pub linesFrom : ℕ → ℕ → List ℕ → List RenderLine
+linesFrom zero at s = []
+linesFrom (suc fuel) at s = lineThen s (lineAt at s) (linesFrom fuel (lineEnd at s) s)
 
 -- all lines of a sheet
 unfoldable pub walked : List ℕ → List RenderLine
-walked s = linesFrom (length s) (lineAt 5 s) s
+walked s = linesFrom (length s) 5 s
 
 -- a walk over a sheet that passes refusal 1 gives back its lines and pieces, in order (proved as `walks-back` in proofs/Walked.antt)
 abbrev pub WalksBack : Type 0

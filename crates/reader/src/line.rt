@@ -2,7 +2,7 @@
 use fields::field::Field;
 use fields::field::field_at;
 ghost use mathlib.Core.Path.{_≡_};
-ghost use Rattle.reader.specs.Reading.{pieceAt, lineAt, partOf, textOf, nameOf};
+ghost use Rattle.reader.specs.Reading.{pieceAt, lineAt, lineEnd, partOf, textOf, nameOf};
 
 // A piece of a line: a text with its annotation or a name, from one place to another, where the next piece stands; the end of the line; or
 // what is no piece.
@@ -100,6 +100,23 @@ pub fn line_at(sheet: &[u8], at: usize) -> Line
         }
         Field::Broken => Line::Broken,
         Field::End => Line::End,
+    }
+}
+
+// The place where the line at a place ends, which is where the next one stands; the place itself where there is no line.
+pub fn line_end(sheet: &[u8], at: usize) -> usize
+    ensures { λ r. ⌜ r ≡ lineEnd at (now (sheet .entry)) ⌝ }
+{
+    let l = line_at(sheet, at);
+    match l {
+        Line::Text { first: _, end } => end,
+        Line::Border {
+            annotation: _,
+            place,
+            length,
+        } => place + length,
+        Line::Broken => at,
+        Line::End => at,
     }
 }
 

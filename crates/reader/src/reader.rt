@@ -1,11 +1,14 @@
-// A reader that holds the sheet's bytes and a position: three thin functions over those that take a slice and a number, and one with plain
-// parameters above them.
+// A reader that holds the sheet's bytes and a position: three thin functions, each over its twin in line.rt that takes the slice and the number,
+// and functions with plain parameters above them, whose callers hold no reader.
 use crate::line::Line;
+use crate::line::Piece;
 use crate::line::line_at;
+use crate::line::line_end;
+use crate::line::piece_at;
 ghost use mathlib.Core.Path.{_≡_};
-ghost use Rattle.reader.specs.Reading.{lineAt};
+ghost use Rattle.reader.specs.Reading.{pieceAt, lineAt, lineEnd};
 
-// The sheet, and where the next line stands.
+// The sheet, and the place of a line or of a piece.
 pub struct Reader<'a> {
     pub sheet: &'a [u8],
     pub at: usize,
@@ -25,11 +28,19 @@ pub fn line<'a>(r: Reader<'a>) -> Line
     line_at(r.sheet, r.at)
 }
 
-// The reader moved to another place.
-pub fn moved<'a>(r: Reader<'a>, at: usize) -> Reader<'a>
-    ensures { λ q. ⌜ (q .sheet ≡ r .entry .sheet) × (q .at ≡ at) ⌝ }
+// The reader moved past the line where it stands.
+pub fn past<'a>(r: Reader<'a>) -> Reader<'a>
+    ensures { λ q. ⌜ (q .sheet ≡ r .entry .sheet) × (q .at ≡ lineEnd (r .entry .at) (now (r .entry .sheet))) ⌝ }
 {
+    let at = line_end(r.sheet, r.at);
     Reader { sheet: r.sheet, at }
+}
+
+// The piece where the reader stands, in a line that ends at a place.
+pub fn piece<'a>(r: Reader<'a>, end: usize) -> Piece
+    ensures { λ p. ⌜ p ≡ pieceAt (r .entry .at) end (now (r .entry .sheet)) ⌝ }
+{
+    piece_at(r.sheet, r.at, end)
 }
 
 // The first line of a sheet.
@@ -37,4 +48,18 @@ pub fn first_line(sheet: &[u8]) -> Line
     ensures { λ l. ⌜ l ≡ lineAt 5 (now (sheet .entry)) ⌝ }
 {
     line(new(sheet))
+}
+
+// The line after the one at a place.
+pub fn line_after(sheet: &[u8], at: usize) -> Line
+    ensures { λ l. ⌜ l ≡ lineAt (lineEnd at (now (sheet .entry))) (now (sheet .entry)) ⌝ }
+{
+    line(past(Reader { sheet, at }))
+}
+
+// The piece at a place of a line that ends at a place.
+pub fn piece_in(sheet: &[u8], at: usize, end: usize) -> Piece
+    ensures { λ p. ⌜ p ≡ pieceAt at end (now (sheet .entry)) ⌝ }
+{
+    piece(Reader { sheet, at }, end)
 }

@@ -14,17 +14,16 @@ use prog.Memory.{Memory}
 use prog.Routine.{Routine}
 use prog.Wp.{Heap, Calls, Loops, WpFn, Tables}
 use ghost.Atoms.{Atoms, sem}
-use contract.Lifetimes.{Lfts}
 use contract.Monad.{Fun, fact}
 use contract.Running.{givenOf, tables, tablesOf}
 use types.Kit.{Given, ‵, raw, _⊛_, ⋆, some, later, _$_, _∵_, !, qed, by, move, use1, use2, split, join, pick, fsplit, fjoin, suffices, frame, await, done}
 use types.Run.{look, init, forget, stop, from, load, and-then, no-more, land, returns, enter, alloc1, alloc0, params1, pass1, pass0, free1, free0}
 use sound.WpLaws.{FmC, fmOf, WpFn-mono}
-use denote.RattleType.{RattleType, owns}
+use denote.RattleType.{owns}
 use denote.Laws.{Is, shows}
 use denote.Builtin.{u8}
 use denote.Ref.{RefT, NamedLft, now}
-use denote.Signature.{plain, namedLft}
+use denote.Signature.{plain}
 use denote.Slice.{sliceVal, ShrSlice, slice-vals, shr-slice-tells, shr-slice-lawful, shr-slice-copy}
 use denote.Steps.{peeks, heard, nothing}
 use denote.Enum.Laws as EL
@@ -42,12 +41,14 @@ use Rattle.reader.specs.declared.reader.Reader.{Reader}
 use Rattle.reader.specs.declared.line.Line.{Line}
 use Rattle.reader.proofs.reader.Reader as R
 use Rattle.reader.proofs.reader.Reader.Laws as R′
+use Rattle.reader.proofs.Held.{B}
 use Rattle.reader.proofs.line.Line as L
 use Rattle.reader.proofs.line.Line.Laws as L′
 use Rattle.reader.proofs.reader.new as new
 use Rattle.reader.proofs.reader.new.Symbol as new-def
 use Rattle.reader.proofs.reader.new.Symbol.{name as #new}
 use Rattle.reader.proofs.reader.new.Met as new-thm
+use Rattle.reader.proofs.CallsLine.{LineOf, Found, to-line, goes-line, line-said}
 use Rattle.reader.proofs.reader.line as line
 use Rattle.reader.proofs.reader.line.Symbol as line-def
 use Rattle.reader.proofs.reader.line.Symbol.{name as #line}
@@ -57,20 +58,13 @@ use Rattle.reader.proofs.reader.first_line as first-line
 use Rattle.reader.proofs.reader.first_line.Statement as stated
 use Rattle.reader.proofs.reader.first_line.Code as code
 
--- the struct's type, over the signature's lifetimes
-abbrev B : Lfts 1 → RattleType
-B κs = R.the-row (namedLft 1 0 tt κs)
-
 abbrev stayed : Stays (first-line.ended .signature .params) (first-line.ended .kept)
 stayed = (stay-none-slice (0 ∷ []) tt (plain (λ _. u8)) yes, tt)
 
 module _ {M : Type 1} (𝓤 : URA M) (H : Heap 𝓤) (A : Atoms 𝓤) (mem : Memory → SProp 𝓤) (run : Routine → Fun 𝓤) where
-  -- the contracts that the proof cites
+  -- the contract that the proof cites, beside that of `line` (`CallsLine.antt`)
   abbrev New : Contract 𝓤
   New = tripleOf 𝓤 H A new.signature (new.spec 𝓤 H A mem run)
-
-  abbrev LineOf : Contract 𝓤
-  LineOf = tripleOf 𝓤 H A line.signature (line.spec 𝓤 H A mem run)
 
 module _ {M : Type 1} (𝓤 : URA M) (H : Heap 𝓤) (A : Atoms 𝓤) (W : Given 𝓤 H A) (mem : Memory → SProp 𝓤) (run : Routine → Fun 𝓤) where
   module _ (κ : Lft) (q : Share) (s : RefT (List ℕ)) where
@@ -110,19 +104,6 @@ module _ {M : Type 1} (𝓤 : URA M) (H : Heap 𝓤) (A : Atoms 𝓤) (W : Given
     new-said : (r : Reader) → ent 𝓤 (ensured 𝓤 H A new.ended (new.clauses 𝓤 H A mem run) (κ, tt) (s, tt) tt r) (fact 𝓤 (Fresh r))
     new-said r = exE 𝓤 _ (λ ws. snd∗ 𝓤 (sem 𝓤 H A (lasts new.ended (κ, tt) (s, tt) ws)) (fact 𝓤 (Fresh r)))
 
-    -- the call of `line`, at the struct r with the machine value u
-    abbrev to-line : Reader → Val → LineOf 𝓤 H A mem run .Ghost
-    to-line r u = (((κ, tt), (q, tt), tt, (r, tt), (u ∷ [], tt)), tt)
-
-    goes-line : (r : Reader) (u : Val) → ent 𝓤 (⋆ 𝓤 H A (‵ (B (κ, tt) .own r (u ∷ [])) ∷ (‵ (flft κ q) ⊛ ‵ ftrue) ∷ [])) (LineOf 𝓤 H A mem run .pre (to-line r u))
-    goes-line r u = qed W (‵ (B (κ, tt) .own r (u ∷ [])) ∷ (‵ (flft κ q) ⊛ ‵ ftrue) ∷ []) ∵ nothing ! $ move ! (1 ∷ 0 ∷ []) $ fjoin ! $ move ! (1 ∷ 0 ∷ []) $ join ! $ frame ! $ done !
-
-    abbrev Found : Reader → Line → Type 0
-    Found r l = l ≡ lineAt (r .at) (now (r .sheet))
-
-    line-said : (r : Reader) (l : Line) → ent 𝓤 (ensured 𝓤 H A line.ended (line.clauses 𝓤 H A mem run) (κ, tt) (r, tt) tt l) (fact 𝓤 (Found r l))
-    line-said r l = exE 𝓤 _ (λ ws. snd∗ 𝓤 (sem 𝓤 H A (lasts line.ended (κ, tt) (r, tt) ws)) (fact 𝓤 (Found r l)))
-
     exits : (l : Line) (u : Val) → l ≡ found → ent 𝓤 (⋆ 𝓤 H A (‵ (L.the-row .own l (u ∷ [])) ∷ (‵ (flft κ q) ⊛ ‵ ftrue) ∷ ‵ Own ∷ [])) (Post u)
     exits l u e =
         qed W (‵ (L.the-row .own l (u ∷ [])) ∷ (‵ (flft κ q) ⊛ ‵ ftrue) ∷ ‵ Own ∷ []) ∵
@@ -141,10 +122,10 @@ module _ {M : Type 1} (𝓤 : URA M) (H : Heap 𝓤) (A : Atoms 𝓤) (W : Given
           -- [what the struct owns; the token; what s owns; room for _2; …; _1; …; room for _0; …]
           peeks ! (B (κ, tt)) (Is (B (κ, tt))) (shows 𝓤 H A (B (κ, tt))) r (u ∷ []) (λ is.
           land ! (from ! (stop !)) (init ! 3 refl (LL.lawful (R.the-type αᵉ) (R′.the-laws αᵉ) 𝓤 H A W .typed r _ is .0)) $
-          use2 W (raw (LineOf 𝓤 H A mem run .pre (to-line r u))) (goes-line r u) $
-          calls-at ! fm (LineOf 𝓤 H A mem run) known-line (to-line r u) (and-then ! (load ! (from ! (stop !)) (look ! 2 refl)) (no-more !)) (λ w.
+          use2 W (raw (LineOf 𝓤 H A mem run .pre (to-line 𝓤 H A mem run κ q r u))) (goes-line 𝓤 H A mem run κ q W r u) $
+          calls-at ! fm (LineOf 𝓤 H A mem run) known-line (to-line 𝓤 H A mem run κ q r u) (and-then ! (load ! (from ! (stop !)) (look ! 2 refl)) (no-more !)) (λ w.
           use1 W (later (some (λ (l : Line). ((‵ (flft κ q) ⊛ ‵ ftrue) ⊛ ‵ (L.the-row .own l (w ∷ []))) ⊛ raw (ensured 𝓤 H A line.ended (line.clauses 𝓤 H A mem run) (κ, tt) (r, tt) tt l)))) (id⊢ 𝓤 _) $ await ! tt $ pick ! (λ l.
-          split ! $ move ! (1 ∷ []) $ use1 W (raw (fact 𝓤 (Found r l))) (line-said r l) $ heard ! (Found r l) (λ k. split ! $ move ! (1 ∷ []) $
+          split ! $ move ! (1 ∷ []) $ use1 W (raw (fact 𝓤 (Found r l))) (line-said 𝓤 H A mem run κ q r l) $ heard ! (Found r l) (λ k. split ! $ move ! (1 ∷ []) $
           -- [the result; the token; what s owns; _2; …; _1; …; room for _0; …]
           peeks ! L.the-row (Is L.the-row) (shows 𝓤 H A L.the-row) l (w ∷ []) (λ is.
           land ! (from ! (stop !)) (init ! 7 refl (EL.lawful L.the-type L′.the-laws 𝓤 H A W tt .typed l _ is .0)) $
