@@ -1,0 +1,154 @@
+-- `fields::walk::field_refusal` and `fields::walk::fields_refusal`, which call each other, meet their contracts. The loop carries the refusal so
+-- far, which with those of the fields left gives that of the whole. A call within goes one level down: a cell holds lines, and a line pieces.
+-- Assumes nothing.
+use mathlib.Core.Path.{_≡_, refl, sym, _∙_}
+use Prim.Native.Nat.{ℕ, suc, _+_, _-_, _<_}
+use native.Mathlib.Omega.{arith}
+use borrow.Author.Needs.{needs}
+use borrow.Fn.PlainCycle.{Measures, is, falls, and}
+use lib.ListN.{length}
+use denote.Ref.{now}
+use Rattle.fields.specs.Field.{broken, raws}
+use Rattle.fields.specs.First.{firstOver}
+use Rattle.fields.specs.Job.{readField}
+use Rattle.fields.specs.Sheet.{readPiece, readLine, readCell, readPrefix}
+use Rattle.fields.specs.Walk.{fieldRefusal, pieceRefusal, lineRefusal, cellRefusal, prefixRefusal, refusalIn}
+use Rattle.fields.specs.declared.walk.Kind.{Kind}
+use Rattle.fields.specs.declared.walk.Kind.the-variants.{Job, Pieces, Lines, Cells, Prefixes}
+use Rattle.fields.proofs.Fields.{FieldIs, field-is, field-broken, field-end}
+use Rattle.fields.proofs.First.{Walk, walk-start, walk-on, walk-broken, walk-end}
+use Rattle.fields.proofs.Sheets.{text-line, no-line, wide-cell, narrow-cell, short-cell, no-cell}
+use Rattle.fields.proofs.field.field_at.Reads as field-at
+use Rattle.fields.proofs.field.first_of.Reads as first-of
+use Rattle.fields.proofs.judge.border_refusal.Reads as border-refusal
+use Rattle.fields.proofs.judge.job_field_refusal.Reads as job-field-refusal
+use Rattle.fields.proofs.judge.piece_refusal.Reads as piece-refusal
+use Rattle.fields.proofs.judge.prefix_refusal.Reads as prefix-refusal
+use Rattle.fields.proofs.walk.field_refusal.Reads as field-refusal
+use Rattle.fields.proofs.walk.field_refusal.Kinds as field-refusal-kinds
+use Rattle.fields.proofs.walk.fields_refusal.Reads as fields-refusal
+use Rattle.fields.proofs.walk.fields_refusal.Kinds as fields-refusal-kinds
+use Rattle.fields.proofs.walk.+field_refusal+fields_refusal.Lts-field_refusal as field-refusal-lts
+use Rattle.fields.proofs.walk.+field_refusal+fields_refusal.Lts-fields_refusal as fields-refusal-lts
+use Rattle.fields.proofs.walk.+field_refusal+fields_refusal.{statement}
+use Rattle.fields.proofs.walk.+field_refusal+fields_refusal.Tie.{close}
+
+-- how many lists stand in a list of a kind, one in the other
+abbrev depth : Kind → ℕ
+depth Job = 0
+depth Pieces = 0
+depth Lines = 1
+depth Cells = 2
+depth Prefixes = 0
+
+-- a list's fields stand between it and the lists in them
+abbrev μ-field-refusal : Measures 1 field-refusal-kinds.ps ℕ
+μ-field-refusal κs a = depth (a .0) + depth (a .0)
+
+abbrev μ-fields-refusal : Measures 1 fields-refusal-kinds.ps ℕ
+μ-fields-refusal κs a = suc (depth (a .0) + depth (a .0))
+
+-- a rest that is no field is refusal 1 in a list of any kind
+broken-in : (k : Kind) → refusalIn k broken ≡ 1
+unfolding fieldRefusal readField pieceRefusal readPiece lineRefusal readLine cellRefusal readCell prefixRefusal readPrefix
+broken-in Job = refl
+broken-in Pieces = refl
+broken-in Lines = refl
+broken-in Cells = refl
+broken-in Prefixes = refl
+
+abbrev Inv-loop : fields-refusal-lts.InvT-loop
+Inv-loop kind s at₀ worst₀ at worst = Walk (refusalIn kind) s (firstOver (refusalIn kind) (raws s)) at worst
+
+abbrev μ-loop : fields-refusal-lts.MeasureT-loop
+μ-loop kind s at₀ worst₀ at worst = length s - at
+
+-- the field that a turn passes
+found : (t : ℕ)
+    (c : fields-refusal-lts.After-known-told
+    (field-at.Asked, field-at.Learnt, and 1 field-refusal-kinds.ps (falls 1 field-refusal-kinds.ps _<_ μ-field-refusal t) field-refusal.Pre, field-refusal.Post, first-of.Asked, first-of.Learnt)
+    (and 1 fields-refusal-kinds.ps (is 1 fields-refusal-kinds.ps μ-fields-refusal t) fields-refusal.Pre)
+    fields-refusal.Post
+    Inv-loop
+    μ-loop)
+    → FieldIs (now (c .before .before .before .before .before .before .args .s)) (c .before .before .before .before .loop .at) (c .before .f .given .0 .0) (c .before .f .given .0 .1 .0) (c .before .f .given .0 .1 .1 .0)
+found t c =
+    let l = c .before .before .before .before .loop in
+    field-is _ _ _ _ _ (l .inv .inside) (sym (c .before .before .before .field-at .ensures .0) ∙ c .before .f .given .1)
+
+pub +field-refusal+fields-refusal-spec : {M : Type 1} → statement M
++field-refusal+fields-refusal-spec =
+    close μ-field-refusal μ-fields-refusal
+    (λ t. field-refusal-lts.spec
+    (_, job-field-refusal.Learnt, _, piece-refusal.Learnt, _, fields-refusal.Post, _, border-refusal.Learnt, _, first-of.Learnt, _, prefix-refusal.Learnt)
+    _
+    field-refusal.Post
+    -- a job's fields, and pieces
+    (λ c. search needs)
+    (λ c κs. search needs)
+    (λ c. search needs)
+    (λ c κs. search needs)
+    -- lines: pieces are one level down, and what they get the line gets; no line; a border
+    (λ c. search needs)
+    (λ c κs. (let e = rw (c .before .enum-told3 .given .1) at (c .before .before .before .before .pre .0) in omega arith, tt))
+    (λ c. c .fields-refusal .ensures ∙ rw (c .before .before .enum-told3 .given .1) (text-line _ _ (c .before .if1 .taken)))
+    (λ c. rw (c .before .before .enum-told3 .given .1) (no-line _ _ (c .before .if1 .left) (c .if2 .taken)))
+    (λ c κs. search needs)
+    -- cells: no cell; no width; lines are one level down; a width of 0
+    (λ c. search needs)
+    (λ c. rw (c .before .enum-told4 .given .1) (no-cell _ _ (c .if3 .taken)))
+    (λ c. rw (c .before .before .enum-told4 .given .1) (short-cell _ _ (c .before .if3 .left) (c .if4 .taken)))
+    (λ c. search needs)
+    (λ c. search needs)
+    (λ c. search needs)
+    (λ c κs. (let e = rw (c .before .before .before .enum-told4 .given .1) at (c .before .before .before .before .before .before .pre .0) in omega arith, tt))
+    (λ c. search needs)
+    (λ c κs. search needs)
+    (λ c.
+    let d = c .before .before .before in
+    c .first-of .ensures
+    ∙ rw (d .fields-refusal2 .ensures, d .before .before .before .before .enum-told4 .given .1)
+    (narrow-cell _ _ (d .before .before .before .if3 .left) (d .before .before .if4 .left) (c .before .if5 .taken)))
+    -- prefixes
+    (λ c. search needs)
+    (λ c κs. search needs)
+    -- what is answered where the arms meet, in their order
+    (λ c. rw (c .before .enum-told .given .1) (c .job-field-refusal .ensures))
+    (λ c. rw (c .before .enum-told2 .given .1) (c .piece-refusal .ensures))
+    (λ c. rw (c .before .before .before .enum-told3 .given .1, c .before .if2 .left) (c .border-refusal .ensures))
+    (λ c.
+    let d = c .before .before in
+    d .fields-refusal2 .ensures
+    ∙ rw (d .before .before .before .before .enum-told4 .given .1)
+    (wide-cell _ _ (d .before .before .before .if3 .left) (d .before .before .if4 .left) (c .if5 .left)))
+    (λ c. rw (c .before .enum-told5 .given .1) (c .prefix-refusal .ensures)))
+    (λ t. fields-refusal-lts.spec
+    (_, field-at.Learnt, _, field-refusal.Post, _, first-of.Learnt)
+    _
+    fields-refusal.Post
+    Inv-loop
+    μ-loop
+    (λ c. walk-start _ _)
+    (λ c κs. search needs)
+    -- a field: its part of the bytes, its judge, and the walk goes on behind it
+    (λ c. search needs)
+    (λ c. found t c .order)
+    (λ c. let r = found t c in omega (arith, r .order, r .inside))
+    (λ c. let r = found t c in omega (arith, r .order, r .inside))
+    (λ c κs. (let e = c .before .before .before .before .before .before .before .pre .0 in omega arith, tt))
+    (λ c κs. search needs)
+    (λ c. let r = found t (c .before .before .before) in omega (arith, r .begins, r .order, r .inside))
+    (λ c.
+    let d = c .before .before .before in
+    rw (c .first-of .ensures)
+    (walk-on _ _ _ _ _ _ _ _ _ (d .before .before .before .before .loop .inv) (found t d) (c .before .field-refusal .ensures)))
+    -- a rest that is no field
+    (λ c. search needs)
+    (λ c.
+    let d = c .before .before in
+    walk-broken _ _ _ _ _ (d .before .loop .inv) (field-broken _ _ (sym (d .field-at .ensures .0) ∙ c .enum-told .given .1)) (broken-in (d .before .before .before .args .kind)))
+    -- the end
+    (λ c. search needs)
+    (λ c.
+    let d = c .before .before in
+    walk-end _ _ _ _ _ (d .before .loop .inv) (field-end _ _ (sym (d .field-at .ensures .0) ∙ c .enum-told2 .given .1))))
