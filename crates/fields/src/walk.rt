@@ -4,7 +4,7 @@ ghost use mathlib.Core.Path.{_≡_};
 ghost use lib.ListN.{length};
 ghost use Rattle.fields.specs.Field.{whole, raws};
 ghost use Rattle.fields.specs.First.{firstOver};
-ghost use Rattle.fields.specs.Walk.{refusalIn};
+ghost use Rattle.fields.specs.Walk.{lineRefusal, cellRefusal, refusalIn};
 use crate::field::Field;
 use crate::field::field_at;
 use crate::field::first_of;
@@ -22,35 +22,45 @@ pub enum Kind {
     Prefixes,
 }
 
-// The refusal of one field: an L holds pieces, and a C has a width byte and holds lines.
+// An L field holds pieces; a B field is a border.
+fn line_refusal(letter: u8, content: &[u8]) -> u8
+    ensures { λ r. ⌜ r ≡ lineRefusal (whole letter (now (content .entry))) ⌝ }
+{
+    if letter == 0x4C {
+        return fields_refusal(Kind::Pieces, content);
+    }
+    if letter != 0x42 {
+        return 1;
+    }
+    border_refusal(content)
+}
+
+// A C field has a width byte, not 0, and holds lines.
+fn cell_refusal(letter: u8, content: &[u8]) -> u8
+    ensures { λ r. ⌜ r ≡ cellRefusal (whole letter (now (content .entry))) ⌝ }
+{
+    if letter != 0x43 {
+        return 1;
+    }
+    if content.len() < 1 {
+        return 1;
+    }
+    let n = fields_refusal(Kind::Lines, &content[1..]);
+    if content[0] == 0 {
+        return first_of(n, 2);
+    }
+    n
+}
+
+// The refusal of one field, by the kind of its list.
 fn field_refusal(kind: Kind, letter: u8, content: &[u8]) -> u8
     ensures { λ r. ⌜ r ≡ refusalIn kind (whole letter (now (content .entry))) ⌝ }
 {
     match kind {
         Kind::Job => job_field_refusal(letter, content),
         Kind::Pieces => piece_refusal(letter, content),
-        Kind::Lines => {
-            if letter == 0x4C {
-                return fields_refusal(Kind::Pieces, content);
-            }
-            if letter != 0x42 {
-                return 1;
-            }
-            border_refusal(content)
-        }
-        Kind::Cells => {
-            if letter != 0x43 {
-                return 1;
-            }
-            if content.len() < 1 {
-                return 1;
-            }
-            let n = fields_refusal(Kind::Lines, &content[1..]);
-            if content[0] == 0 {
-                return first_of(n, 2);
-            }
-            n
-        }
+        Kind::Lines => line_refusal(letter, content),
+        Kind::Cells => cell_refusal(letter, content),
         Kind::Prefixes => prefix_refusal(letter, content),
     }
 }

@@ -1,8 +1,8 @@
--- `fields::walk::field_refusal` and `fields::walk::fields_refusal`, which call each other, meet their contracts. The loop carries the refusal so
--- far, which with those of the fields left gives that of the whole. A call within goes one level down: a cell holds lines, and a line pieces.
+-- The four functions of `fields::walk` that call each other meet their contracts. The loop of `fields_refusal` carries the refusal so far, which
+-- with those of the fields left gives that of the whole. A call within goes a level down: a cell holds lines, and a line pieces.
 -- Assumes nothing.
 use mathlib.Core.Path.{_≡_, refl, sym, _∙_}
-use Prim.Native.Nat.{ℕ, suc, _+_, _-_, _<_}
+use Prim.Native.Nat.{ℕ, _+_, _-_, _<_}
 use native.Mathlib.Omega.{arith}
 use borrow.Author.Needs.{needs}
 use borrow.Fn.PlainCycle.{Measures, is, falls, and}
@@ -24,29 +24,40 @@ use Rattle.fields.proofs.judge.border_refusal.Reads as border-refusal
 use Rattle.fields.proofs.judge.job_field_refusal.Reads as job-field-refusal
 use Rattle.fields.proofs.judge.piece_refusal.Reads as piece-refusal
 use Rattle.fields.proofs.judge.prefix_refusal.Reads as prefix-refusal
+use Rattle.fields.proofs.walk.cell_refusal.Reads as cell-refusal
+use Rattle.fields.proofs.walk.cell_refusal.Kinds as cell-refusal-kinds
 use Rattle.fields.proofs.walk.field_refusal.Reads as field-refusal
 use Rattle.fields.proofs.walk.field_refusal.Kinds as field-refusal-kinds
 use Rattle.fields.proofs.walk.fields_refusal.Reads as fields-refusal
 use Rattle.fields.proofs.walk.fields_refusal.Kinds as fields-refusal-kinds
-use Rattle.fields.proofs.walk.+field_refusal+fields_refusal.Lts-field_refusal as field-refusal-lts
-use Rattle.fields.proofs.walk.+field_refusal+fields_refusal.Lts-fields_refusal as fields-refusal-lts
-use Rattle.fields.proofs.walk.+field_refusal+fields_refusal.{statement}
-use Rattle.fields.proofs.walk.+field_refusal+fields_refusal.Tie.{close}
+use Rattle.fields.proofs.walk.line_refusal.Reads as line-refusal
+use Rattle.fields.proofs.walk.line_refusal.Kinds as line-refusal-kinds
+use Rattle.fields.proofs.walk.+cell_refusal+field_refusal+fields_refusal+line_refusal.Lts-cell_refusal as cell-refusal-lts
+use Rattle.fields.proofs.walk.+cell_refusal+field_refusal+fields_refusal+line_refusal.Lts-field_refusal as field-refusal-lts
+use Rattle.fields.proofs.walk.+cell_refusal+field_refusal+fields_refusal+line_refusal.Lts-fields_refusal as fields-refusal-lts
+use Rattle.fields.proofs.walk.+cell_refusal+field_refusal+fields_refusal+line_refusal.Lts-line_refusal as line-refusal-lts
+use Rattle.fields.proofs.walk.+cell_refusal+field_refusal+fields_refusal+line_refusal.{statement}
+use Rattle.fields.proofs.walk.+cell_refusal+field_refusal+fields_refusal+line_refusal.Tie.{close}
 
--- how many lists stand in a list of a kind, one in the other
+-- how deep the calls go below a field: three for each list within it
 abbrev depth : Kind → ℕ
 depth Job = 0
 depth Pieces = 0
-depth Lines = 1
-depth Cells = 2
+depth Lines = 3
+depth Cells = 6
 depth Prefixes = 0
 
--- a list's fields stand between it and the lists in them
+abbrev μ-cell-refusal : Measures 1 cell-refusal-kinds.ps ℕ
+μ-cell-refusal κs a = depth Cells
+
 abbrev μ-field-refusal : Measures 1 field-refusal-kinds.ps ℕ
-μ-field-refusal κs a = depth (a .0) + depth (a .0)
+μ-field-refusal κs a = depth (a .0) + 1
 
 abbrev μ-fields-refusal : Measures 1 fields-refusal-kinds.ps ℕ
-μ-fields-refusal κs a = suc (depth (a .0) + depth (a .0))
+μ-fields-refusal κs a = depth (a .0) + 2
+
+abbrev μ-line-refusal : Measures 1 line-refusal-kinds.ps ℕ
+μ-line-refusal κs a = depth Lines
 
 -- a rest that is no field is refusal 1 in a list of any kind
 broken-in : (k : Kind) → refusalIn k broken ≡ 1
@@ -76,51 +87,52 @@ found t c =
     let l = c .before .before .before .before .loop in
     field-is _ _ _ _ _ (l .inv .inside) (sym (c .before .before .before .field-at .ensures .0) ∙ c .before .f .given .1)
 
-pub +field-refusal+fields-refusal-spec : {M : Type 1} → statement M
-+field-refusal+fields-refusal-spec =
-    close μ-field-refusal μ-fields-refusal
-    (λ t. field-refusal-lts.spec
-    (_, job-field-refusal.Learnt, _, piece-refusal.Learnt, _, fields-refusal.Post, _, border-refusal.Learnt, _, first-of.Learnt, _, prefix-refusal.Learnt)
+pub +cell-refusal+field-refusal+fields-refusal+line-refusal-spec : {M : Type 1} → statement M
++cell-refusal+field-refusal+fields-refusal+line-refusal-spec =
+    close μ-cell-refusal μ-field-refusal μ-fields-refusal μ-line-refusal
+    (λ t. cell-refusal-lts.spec
+    (_, fields-refusal.Post, _, first-of.Learnt)
     _
-    field-refusal.Post
-    -- a job's fields, and pieces
-    (λ c. search needs)
-    (λ c κs. search needs)
-    (λ c. search needs)
-    (λ c κs. search needs)
-    -- lines: pieces are one level down, and what they get the line gets; no line; a border
-    (λ c. search needs)
-    (λ c κs. (let e = rw (c .before .enum-told3 .given .1) at (c .before .before .before .before .pre .0) in omega arith, tt))
-    (λ c. c .fields-refusal .ensures ∙ rw (c .before .before .enum-told3 .given .1) (text-line _ _ (c .before .if1 .taken)))
-    (λ c. rw (c .before .before .enum-told3 .given .1) (no-line _ _ (c .before .if1 .left) (c .if2 .taken)))
-    (λ c κs. search needs)
-    -- cells: no cell; no width; lines are one level down; a width of 0
-    (λ c. search needs)
-    (λ c. rw (c .before .enum-told4 .given .1) (no-cell _ _ (c .if3 .taken)))
-    (λ c. rw (c .before .before .enum-told4 .given .1) (short-cell _ _ (c .before .if3 .left) (c .if4 .taken)))
+    cell-refusal.Post
+    -- another letter; no width
+    (λ c. no-cell _ _ (c .if1 .taken))
+    (λ c. short-cell _ _ (c .before .if1 .left) (c .if2 .taken))
+    -- its lines
     (λ c. search needs)
     (λ c. search needs)
     (λ c. search needs)
-    (λ c κs. (let e = rw (c .before .before .before .enum-told4 .given .1) at (c .before .before .before .before .before .before .pre .0) in omega arith, tt))
+    (λ c κs. (let e = c .before .before .before .before .pre .0 in omega arith, tt))
+    -- a width of 0, and another
     (λ c. search needs)
     (λ c κs. search needs)
     (λ c.
     let d = c .before .before .before in
     c .first-of .ensures
-    ∙ rw (d .fields-refusal2 .ensures, d .before .before .before .before .enum-told4 .given .1)
-    (narrow-cell _ _ (d .before .before .before .if3 .left) (d .before .before .if4 .left) (c .before .if5 .taken)))
-    -- prefixes
-    (λ c. search needs)
-    (λ c κs. search needs)
-    -- what is answered where the arms meet, in their order
-    (λ c. rw (c .before .enum-told .given .1) (c .job-field-refusal .ensures))
-    (λ c. rw (c .before .enum-told2 .given .1) (c .piece-refusal .ensures))
-    (λ c. rw (c .before .before .before .enum-told3 .given .1, c .before .if2 .left) (c .border-refusal .ensures))
+    ∙ rw (d .fields-refusal .ensures)
+    (narrow-cell _ _ (d .before .before .before .if1 .left) (d .before .before .if2 .left) (c .before .if3 .taken)))
     (λ c.
     let d = c .before .before in
-    d .fields-refusal2 .ensures
-    ∙ rw (d .before .before .before .before .enum-told4 .given .1)
-    (wide-cell _ _ (d .before .before .before .if3 .left) (d .before .before .if4 .left) (c .if5 .left)))
+    d .fields-refusal .ensures ∙ wide-cell _ _ (d .before .before .before .if1 .left) (d .before .before .if2 .left) (c .if3 .left)))
+    (λ t. field-refusal-lts.spec
+    (_, job-field-refusal.Learnt, _, piece-refusal.Learnt, _, line-refusal.Post, _, cell-refusal.Post, _, prefix-refusal.Learnt)
+    _
+    field-refusal.Post
+    -- the kind, and what its judge asks
+    (λ c. search needs)
+    (λ c κs. search needs)
+    (λ c. search needs)
+    (λ c κs. search needs)
+    (λ c. search needs)
+    (λ c κs. (let e = rw (c .enum-told3 .given .1) at (c .before .before .before .pre .0) in omega arith, tt))
+    (λ c. search needs)
+    (λ c κs. (let e = rw (c .enum-told4 .given .1) at (c .before .before .before .pre .0) in omega arith, tt))
+    (λ c. search needs)
+    (λ c κs. search needs)
+    -- what it answers
+    (λ c. rw (c .before .enum-told .given .1) (c .job-field-refusal .ensures))
+    (λ c. rw (c .before .enum-told2 .given .1) (c .piece-refusal .ensures))
+    (λ c. rw (c .before .enum-told3 .given .1) (c .line-refusal .ensures))
+    (λ c. rw (c .before .enum-told4 .given .1) (c .cell-refusal .ensures))
     (λ c. rw (c .before .enum-told5 .given .1) (c .prefix-refusal .ensures)))
     (λ t. fields-refusal-lts.spec
     (_, field-at.Learnt, _, field-refusal.Post, _, first-of.Learnt)
@@ -130,7 +142,7 @@ pub +field-refusal+fields-refusal-spec : {M : Type 1} → statement M
     μ-loop
     (λ c. walk-start _ _)
     (λ c κs. search needs)
-    -- a field: its part of the bytes, its judge, and the walk goes on behind it
+    -- a field: its bytes, its judge, and the walk goes on behind it
     (λ c. search needs)
     (λ c. found t c .order)
     (λ c. let r = found t c in omega (arith, r .order, r .inside))
@@ -152,3 +164,13 @@ pub +field-refusal+fields-refusal-spec : {M : Type 1} → statement M
     (λ c.
     let d = c .before .before in
     walk-end _ _ _ _ _ (d .before .loop .inv) (field-end _ _ (sym (d .field-at .ensures .0) ∙ c .enum-told2 .given .1))))
+    (λ t. line-refusal-lts.spec
+    (_, fields-refusal.Post, _, border-refusal.Learnt)
+    _
+    line-refusal.Post
+    -- pieces; another letter; a border
+    (λ c κs. (let e = c .before .before .pre .0 in omega arith, tt))
+    (λ c. c .fields-refusal .ensures ∙ text-line _ _ (c .before .if1 .taken))
+    (λ c. no-line _ _ (c .before .if1 .left) (c .if2 .taken))
+    (λ c κs. search needs)
+    (λ c. rw (c .before .if2 .left) (c .border-refusal .ensures)))
