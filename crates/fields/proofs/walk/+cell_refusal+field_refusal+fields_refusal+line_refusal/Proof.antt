@@ -1,7 +1,7 @@
 -- The four functions of `fields::walk` that call each other meet their contracts. The loop of `fields_refusal` carries the refusal so far, which
 -- with those of the fields left gives that of the whole. A call within goes a level down: a cell holds lines, and a line pieces.
 -- Assumes nothing.
-use mathlib.Core.Path.{_≡_, refl, sym, _∙_}
+use mathlib.Core.Path.{_≡_, refl, sym, ap, _∙_}
 use Prim.Native.Nat.{ℕ, _+_, _-_, _<_}
 use native.Mathlib.Omega.{arith}
 use borrow.Author.Needs.{needs}
@@ -9,7 +9,7 @@ use borrow.Fn.PlainCycle.{Measures, is, falls, and}
 use lib.ListN.{length}
 use denote.Ref.{now}
 use Rattle.fields.specs.Field.{broken, raws}
-use Rattle.fields.specs.First.{firstOver}
+use Rattle.fields.specs.First.{firstOf, firstOver}
 use Rattle.fields.specs.Job.{readField}
 use Rattle.fields.specs.Sheet.{readPiece, readLine, readCell, readPrefix}
 use Rattle.fields.specs.Walk.{fieldRefusal, pieceRefusal, lineRefusal, cellRefusal, prefixRefusal, refusalIn}
@@ -108,8 +108,8 @@ pub +cell-refusal+field-refusal+fields-refusal+line-refusal-spec : {M : Type 1} 
     (λ c.
     let d = c .before .before .before in
     c .first-of .ensures
-    ∙ rw (d .fields-refusal .ensures)
-    (narrow-cell _ _ (d .before .before .before .if1 .left) (d .before .before .if2 .left) (c .before .if3 .taken)))
+    ∙ ap (λ (n : ℕ). firstOf n 2) (d .fields-refusal .ensures)
+    ∙ narrow-cell _ _ (d .before .before .before .if1 .left) (d .before .before .if2 .left) (omega (arith, c .before .if3 .taken)))
     (λ c.
     let d = c .before .before in
     d .fields-refusal .ensures ∙ wide-cell _ _ (d .before .before .before .if1 .left) (d .before .before .if2 .left) (c .if3 .left)))
