@@ -15,7 +15,7 @@ use Rattle.fields.specs.Sheet.{RenderLine, Cell, readLine}
 use Rattle.fields.specs.declared.field.Field.the-variants.{At, Broken, End}
 use Rattle.fields.proofs.Fields.{field-is}
 use Rattle.fields.proofs.Parts.{part-length, part-cons}
-use Rattle.borders.specs.BorderHoriz.{merge-from-below, merge-from-above}
+use Rattle.borders.specs.BorderHoriz.{merge-from, merge-from-below, merge-from-above}
 use Rattle.borders.specs.Buffer.{Holds}
 use Rattle.rows.specs.SubRenderer.{top}
 use Rattle.rows.specs.Columns.{Column, column, joinAt, totalWidth, topsOf, bottomsOf}
@@ -127,7 +127,7 @@ top-merged buffer n body pos l st nx buffer′ r e k h d ls x =
 -- A line that is none is not.
 pub top-kept : (buffer : List ℕ) (n : ℕ) (body : List ℕ) (pos letter start next : ℕ) → n ≤ length buffer
     → fieldAt 0 (drop 0 body) ≡ At letter start next → (letter ≡ 0x42 → start < next → ⊥) → MergesTop buffer n body pos buffer n
-unfolding merge-from-below
+unfolding merge-from
 top-kept buffer n body pos l st nx h e k ls x =
     let t = body-first body l st nx ls e x in
     let size : length (part st nx body) ≡ nx - st = part-length st nx body (t .found .inside) in
@@ -137,7 +137,7 @@ top-kept buffer n body pos l st nx h e k ls x =
 
 -- No line, no border.
 pub top-absent : (buffer : List ℕ) (n : ℕ) (body : List ℕ) (pos : ℕ) → n ≤ length buffer → fieldAt 0 (drop 0 body) ≡ End → MergesTop buffer n body pos buffer n
-unfolding merge-from-below
+unfolding merge-from
 top-absent buffer n body pos h e ls x =
     let c = body-lines body ls x in
     ⊎-elim (λ k. absurd (line-end body 0 (length body) ls k c e))
@@ -145,7 +145,7 @@ top-absent buffer n body pos h e ls x =
 
 -- A rest that is no field is no line.
 pub top-broken : (buffer : List ℕ) (n : ℕ) (body : List ℕ) (pos : ℕ) → n ≤ length buffer → fieldAt 0 (drop 0 body) ≡ Broken → MergesTop buffer n body pos buffer n
-unfolding merge-from-below
+unfolding merge-from
 top-broken buffer n body pos h e ls x =
     let c = body-lines body ls x in
     ⊎-elim (λ k. absurd (line-broken body 0 (length body) ls k c e))

@@ -17,7 +17,7 @@ use Rattle.fields.specs.Answer.{Verdict, refused, give, rendered}
 use Rattle.fields.specs.declared.answer.Rendered.{Rendered}
 use Rattle.fields.proofs.Sets.{wrote-fits}
 use Rattle.fields.proofs.Readings.{read-size}
-use Rattle.borders.specs.BorderHoriz.{new-type, stretch-to}
+use Rattle.borders.specs.BorderHoriz.{new-type, stretch-to, join-above, join-below}
 use Rattle.borders.specs.Buffer.{Holds}
 use Rattle.rows.specs.declared.Setup.{Setup}
 use Rattle.rows.specs.SubRenderer.{padded, onLast, isBorder, endsInBorder, ifDrawn, anyStartsBorder, noBorderAbove}
@@ -29,7 +29,7 @@ use Rattle.add_line.specs.Emitted.{Emitted, noLines, InBounds, Next, PutsBorder
 use Rattle.add_line.specs.declared.lines.Lines.{Lines}
 use Rattle.add_line.proofs.Emitting.{emitted-none}
 use Rattle.append_columns.specs.Cells.{LinesAt, LastLine, none-there, last-there, FindsLast, Sits, CellsAre, PlacesAll, Starts}
-use Rattle.append_columns.specs.Edges.{Sat, joinOf, MergesTops, MergesBottoms}
+use Rattle.append_columns.specs.Edges.{Sat, MergesTops, MergesBottoms}
 use Rattle.append_columns.specs.Row.{AddsRow}
 use Rattle.append_columns.specs.Laid.{NextOrSame, PutsPrev, AddsNext, SheetLast, AddsOld, Lays}
 use Rattle.append_columns.proofs.CellLaws.{LineOf, is-text, is-border, line-of}
@@ -52,7 +52,7 @@ tail-of a segs = let e : length (a ∷ segs) - 1 ≡ length segs = omega arith i
 
 -- Copied, joined below and stretched.
 pub above : (content b b₁ b₂ b₃ ws : List ℕ) (len joined w n : ℕ) → Wrote b 0 (take (length content - 1) (drop 1 content)) b₁ len → length content ≤ length b
-    → Holds b₂ joined (joinAt (joinOf false) 0 ws (take len b₁)) → w ≡ totalWidth ws - 1 → Holds b₃ n (stretch-to (take joined b₂) w)
+    → Holds b₂ joined (joinAt join-below 0 ws (take len b₁)) → w ≡ totalWidth ws - 1 → Holds b₃ n (stretch-to (take joined b₂) w)
     → Above content ws b₃ n
 unfolding joinedAbove
 above content b b₁ b₂ b₃ ws len joined w n wrote few j wide s a segs e =
@@ -107,7 +107,7 @@ Below joined ws b n = take n b ≡ joinedBelow joined ws
 
 -- New, and joined above if there is a border above the row.
 pub below-joined : (joined : Bool) (b₁ b₂ b ws : List ℕ) (w n m k : ℕ) → joined ≡ true → w ≡ totalWidth ws - 1 → Holds b₁ n (new-type w 0)
-    → Holds b₂ m (joinAt (joinOf true) 0 ws (take n b₁)) → b ≡ b₂ → k ≡ m → Below joined ws b k
+    → Holds b₂ m (joinAt join-above 0 ws (take n b₁)) → b ≡ b₂ → k ≡ m → Below joined ws b k
 unfolding joinedBelow
 below-joined joined b₁ b₂ b ws w n m k on wide new j same count = rw (on, same, count) (j .segments ∙ rw (new .segments, wide))
 

@@ -1,12 +1,11 @@
 -- The two borders of a row in a lent buffer.
 -- Assumes nothing: these are definitions.
 use mathlib.Core.Path.{_≡_}
-use mathlib.Core.Bool.{Bool, true, false}
 use mathlib.Core.Option.{some}
 use mathlib.Core.List.{List}
 use Prim.Native.Nat.{ℕ, _+_, _≤_, _<_}
 use lib.ListN.{length, take, getD}
-use Rattle.borders.specs.BorderHoriz.{join-above, join-below, merge-from-below}
+use Rattle.borders.specs.BorderHoriz.{merge-from-below}
 use Rattle.borders.specs.Buffer.{Holds}
 use Rattle.fields.specs.Field.{raws, readAll}
 use Rattle.fields.specs.Sheet.{RenderLine, Cell, readLine}
@@ -28,11 +27,6 @@ pub record Sat (cells : List ℕ) (end stop width : ℕ) : Type 0 where
 -- of the first n cells
 abbrev pub AllPlaced : List ℕ → List ℕ → List ℕ → List ℕ → ℕ → Type 0
 AllPlaced cells ends stops widths n = (k : ℕ) → k < n → Sat cells (getD ends k 0) (getD stops k 0) (getD widths k 0)
-
--- above, or below
-abbrev pub joinOf : Bool → List ℕ → ℕ → List ℕ
-joinOf true = join-above
-joinOf false = join-below
 
 -- `merge_top`: the first border of a cell's lines
 abbrev pub MergesTop : List ℕ → ℕ → List ℕ → ℕ → List ℕ → ℕ → Type 0

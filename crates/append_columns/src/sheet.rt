@@ -11,6 +11,7 @@ use add_line::lines::add_border;
 use add_line::lines::close;
 use add_line::lines::no_lines;
 use add_line::lines::put_border;
+use borders::border::Side;
 use borders::border::new_type;
 use borders::border::stretch_to;
 use fields::answer::Rendered;
@@ -45,7 +46,7 @@ fn put_prev_border(
         return lines;
     }
     let len = put_bytes(border, 0, &content[1..]);
-    let joined = join_edges(border, len, width, n, false);
+    let joined = join_edges(border, len, width, n, Side::Below);
     let mut all = stretch_to(border, joined, total_width(width, n));
     if collapse {
         all = merge_tops(border, all, cells);
@@ -72,7 +73,7 @@ fn add_next_border(
 {
     let mut len = new_type(border, total_width(width, n), 0);
     if joined {
-        len = join_edges(border, len, width, n, true);
+        len = join_edges(border, len, width, n, Side::Above);
     }
     let all = merge_bottoms(border, len, cells, end, stop, width, n);
     add_border(out, lines, setup, setup.annotation, &border[..all])

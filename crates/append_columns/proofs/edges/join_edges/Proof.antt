@@ -4,20 +4,20 @@ use Prim.Native.Nat.{_-_, _*_, _≤_, _<_}
 use native.Mathlib.Omega.{arith}
 use lib.ListN.{length, take, getD}
 use denote.Ref.{now}
+use Rattle.borders.specs.BorderHoriz.{join-on}
 use Rattle.rows.specs.Columns.{joinAt}
-use Rattle.append_columns.specs.Edges.{joinOf}
 use Rattle.append_columns.proofs.EdgeLaws.{Joining, joining-start, joining-on, joining-end}
 use borrow.Author.Needs.{needs}
 use Rattle.append_columns.proofs.edges.join_edges.Statement.{statement}
 use Rattle.append_columns.proofs.edges.join_edges.Tie as tie
 
 abbrev Inv-loop : tie.InvT-loop
-Inv-loop border₀ len width n above widths joined₀ pos₀ k₀ border joined pos k =
+Inv-loop border₀ len width n side widths joined₀ pos₀ k₀ border joined pos k =
     (k ≤ 16) × (length widths ≡ 16) × (length border ≡ length border₀) × (joined ≤ length border) × (pos ≤ k * 256)
-    × Joining (joinOf above) (take n widths) k pos (take joined border) (joinAt (joinOf above) 0 (take n widths) (take len border₀))
+    × Joining (join-on side) (take n widths) k pos (take joined border) (joinAt (join-on side) 0 (take n widths) (take len border₀))
 
 abbrev μ-loop : tie.MeasureT-loop
-μ-loop border₀ len width n above widths joined₀ pos₀ k₀ border joined pos k = n - k
+μ-loop border₀ len width n side widths joined₀ pos₀ k₀ border joined pos k = n - k
 
 loop-holds : tie.Need-loop-holds Inv-loop μ-loop
 loop-holds c =
@@ -27,7 +27,7 @@ loop-holds c =
       refl,
       c .before .before .pre .0,
       omega arith,
-      joining-start (joinOf (a .above)) (take (a .n) (now (a .width))) (take (a .len) (now (a .border))),
+      joining-start (join-on (a .side)) (take (a .n) (now (a .width))) (take (a .len) (now (a .border))),
     )
 
 add-loop : tie.Need-add-loop Inv-loop μ-loop
@@ -46,8 +46,8 @@ narrow c = c .before .before .before .before .before .pre .3 (c .before .before 
 add-x : tie.Need-add-x Inv-loop μ-loop
 add-x c = let w = narrow c in let i = c .before .before .loop .inv in record { fits = omega (arith, w, i .0, i .4) }
 
-join-edge-requires : tie.Need-join-edge-requires Inv-loop μ-loop
-join-edge-requires c κs =
+join-on-requires : tie.Need-join-on-requires Inv-loop μ-loop
+join-on-requires c κs =
     let w = narrow (c .before) in
     let i = c .before .before .before .loop .inv in
     let h = c .before .before .loop-test .taken in
@@ -70,14 +70,14 @@ loop-again c =
     let i = l .inv in
     let h = c .before .before .before .before .before .loop-test .taken in
     let w = narrow (c .before .before .before .before) in
-    let d = c .before .before .join-edge .ensures in
+    let d = c .before .before .join-on .ensures in
     let s = c .before .before .before .before .before .before .before .before .before .pre in (
       omega (arith, h, s .2),
       i .1,
       search needs,
       d .inside,
       omega (arith, w, i .4),
-      joining-on (joinOf (a .above)) (now (a .width)) (a .n) (l .k) (l .pos) _ _ _ (omega (arith, i .1, s .2)) h (i .5) (d .segments),
+      joining-on (join-on (a .side)) (now (a .width)) (a .n) (l .k) (l .pos) _ _ _ (omega (arith, i .1, s .2)) h (i .5) (d .segments),
     )
 
 same-length : tie.Need-same-length Inv-loop μ-loop
@@ -91,7 +91,7 @@ returns c =
     let s = c .before .before .before .before .pre in
     record {
       inside = i .3;
-      segments = joining-end (joinOf (a .above)) (now (a .width)) (a .n) (l .k) (l .pos) _ _ (omega (arith, i .1, s .2)) (c .loop-test .left) (i .5);
+      segments = joining-end (join-on (a .side)) (now (a .width)) (a .n) (l .k) (l .pos) _ _ (omega (arith, i .1, s .2)) (c .loop-test .left) (i .5);
     }
 
 pub join-edges-spec : {M : Type 1} → statement M
@@ -105,7 +105,7 @@ join-edges-spec =
     mul-x
     shared-slice-read-x
     add-x
-    join-edge-requires
+    join-on-requires
     add-pos
     add-k
     loop-less

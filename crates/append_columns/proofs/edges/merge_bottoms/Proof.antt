@@ -49,17 +49,17 @@ sat c = c .before .before .before .before .before .pre .3 (c .before .before .lo
 bottom-from-requires : tie.Need-bottom-from-requires Inv-loop μ-loop
 bottom-from-requires c κs = sat (c .before) .order
 
-sub-merge-from-above : tie.Need-sub-merge-from-above Inv-loop μ-loop
-sub-merge-from-above c = search needs
+sub-merge-from : tie.Need-sub-merge-from Inv-loop μ-loop
+sub-merge-from c = search needs
 
-part-merge-from-above-start : tie.Need-part-merge-from-above-start Inv-loop μ-loop
-part-merge-from-above-start c = search needs
+part-merge-from-start : tie.Need-part-merge-from-start Inv-loop μ-loop
+part-merge-from-start c = search needs
 
-part-merge-from-above-end : tie.Need-part-merge-from-above-end Inv-loop μ-loop
-part-merge-from-above-end c = sat (c .before .before .before) .inside
+part-merge-from-end : tie.Need-part-merge-from-end Inv-loop μ-loop
+part-merge-from-end c = sat (c .before .before .before) .inside
 
-merge-from-above-requires : tie.Need-merge-from-above-requires Inv-loop μ-loop
-merge-from-above-requires c κs =
+merge-from-requires : tie.Need-merge-from-requires Inv-loop μ-loop
+merge-from-requires c κs =
     let i = c .before .before .before .before .before .before .loop .inv in
     let h = c .before .before .before .before .before .loop-test .taken in
     let s = c .before .before .before .before .before .before .before .before .before .pre in
@@ -91,7 +91,7 @@ loop-again c =
     let i = l .inv in
     let h = c .before .before .before .before .before .before .before .before .before .loop-test .taken in
     let w = sat (c .before .before .before .before .before .before .before .before) in
-    let m = c .before .before .before .merge-from-above .ensures in (
+    let m = c .before .before .before .merge-from .ensures in (
       omega (arith, h),
       search needs,
       m .inside,
@@ -121,10 +121,10 @@ merge-bottoms-spec =
     mul-bottom-from
     element-copy-out-bottom-from
     bottom-from-requires
-    sub-merge-from-above
-    part-merge-from-above-start
-    part-merge-from-above-end
-    merge-from-above-requires
+    sub-merge-from
+    part-merge-from-start
+    part-merge-from-end
+    merge-from-requires
     mul-pos
     element-copy-out-pos
     add-pos

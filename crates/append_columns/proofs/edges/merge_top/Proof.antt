@@ -28,20 +28,20 @@ found : (c : tie.After-known-told)
     → FoundAt (now (c .before .before .before .before .before .before .args .body)) 0 (c .before .f .given .0 .0) (c .before .f .given .0 .1 .0) (c .before .f .given .0 .1 .1 .0)
 found c = found-at _ _ _ _ _ (field c)
 
-add-merge-from-below : tie.Need-add-merge-from-below
-add-merge-from-below c = let r = found (c .before .before .before) in record { fits = omega (arith, r .inside, c .before .if2 .taken) }
+add-merge-from : tie.Need-add-merge-from
+add-merge-from c = let r = found (c .before .before .before) in record { fits = omega (arith, r .inside, c .before .if2 .taken) }
 
-sub-merge-from-below : tie.Need-sub-merge-from-below
-sub-merge-from-below c = let h = c .before .if2 .taken in omega (arith, h)
+sub-merge-from : tie.Need-sub-merge-from
+sub-merge-from c = let h = c .before .if2 .taken in omega (arith, h)
 
-part-merge-from-below-start : tie.Need-part-merge-from-below-start
-part-merge-from-below-start c = let h = c .before .if2 .taken in omega (arith, h)
+part-merge-from-start : tie.Need-part-merge-from-start
+part-merge-from-start c = let h = c .before .if2 .taken in omega (arith, h)
 
-part-merge-from-below-end : tie.Need-part-merge-from-below-end
-part-merge-from-below-end c = let r = found (c .before .before .before) in r .inside
+part-merge-from-end : tie.Need-part-merge-from-end
+part-merge-from-end c = let r = found (c .before .before .before) in r .inside
 
-merge-from-below-requires : tie.Need-merge-from-below-requires
-merge-from-below-requires c κs =
+merge-from-requires : tie.Need-merge-from-requires
+merge-from-requires c κs =
     let r = found (c .before .before .before .before) in
     let s = c .before .before .before .before .before .before .before .before .before .before .pre in
     let body = now (c .before .before .before .before .before .before .before .before .before .before .args .body) in
@@ -55,7 +55,7 @@ same-length c = search needs
 
 returns : tie.Need-returns
 returns c =
-    let d = c .before .before .merge-from-below .ensures in
+    let d = c .before .before .merge-from .ensures in
     let a = c .before .before .before .before .before .before .before .before .before .before .before .before .before .args in
     (d .inside, top-merged (now (a .border)) (a .len) (now (a .body)) (a .pos) _ _ _ _ _ (field (c .before .before .before .before .before .before .before)) (c .before .before .before .before .before .before .if1 .taken) (c .before .before .before .before .before .if2 .taken) d)
 
@@ -83,11 +83,11 @@ merge-top-spec =
     (tie.spec
     field-at-requires
     enum-known-f
-    add-merge-from-below
-    sub-merge-from-below
-    part-merge-from-below-start
-    part-merge-from-below-end
-    merge-from-below-requires
+    add-merge-from
+    sub-merge-from
+    part-merge-from-start
+    part-merge-from-end
+    merge-from-requires
     same-length
     returns
     enum-told
