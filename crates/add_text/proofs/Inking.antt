@@ -29,7 +29,7 @@ use Rattle.flush_word.specs.declared.state.State.{State}
 use Rattle.flush_word.proofs.Flushing.{holds-lines}
 use Rattle.add_text.specs.Chars.{Fits, PushesWord, KeepsBlank}
 use Rattle.add_text.specs.Walks.{Ready, WalkedSmall, wrappedOn, CharIs, WalkKeeps, AddsKept, AddsInk}
-use Rattle.add_text.specs.declared.walk.Run.{Run}
+use Rattle.add_text.specs.declared.text.Run.{Run}
 use Rattle.add_text.specs.declared.walk.Walk.{Walk}
 use Rattle.add_text.proofs.Breaking.{walkOf, tag-is}
 use Rattle.add_text.proofs.Wording.{cols-bytes, white-positive}

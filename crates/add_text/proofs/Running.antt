@@ -34,7 +34,7 @@ use Rattle.hard_wrap.specs.declared.line.Frame.{Frame}
 use Rattle.flush_word.specs.declared.state.State.{State}
 use Rattle.add_text.specs.Chars.{Fits, PushesChars}
 use Rattle.add_text.specs.Runs.{Keeping, Wrapping, Takes, AddsPlain}
-use Rattle.add_text.specs.declared.walk.Run.{Run}
+use Rattle.add_text.specs.declared.text.Run.{Run}
 use Rattle.add_text.specs.declared.walk.Walk.{Walk}
 use Rattle.add_text.specs.declared.runs.Take.{Take}
 use Rattle.add_text.specs.declared.runs.Past.{Past}

@@ -34,7 +34,7 @@ use Rattle.flush_word.specs.declared.state.Flushed.the-variants as flushed
 use Rattle.add_text.specs.Walks.{RunSmall, Ready, WalkedSmall, WalkSmall, CharIs, RunIs, WalkKeeps, NextWalk}
 use Rattle.add_text.specs.Walks.{AddsNewline, AddsTab, AddsKept, AddsCollapsed, AddsInk, BreaksWord, AddsBlank, PutsChar, AddsChar, AddsText}
 use Rattle.add_text.specs.Runs.{AddsPlain}
-use Rattle.add_text.specs.declared.walk.Run.{Run}
+use Rattle.add_text.specs.declared.text.Run.{Run}
 use Rattle.add_text.specs.declared.walk.Walk.{Walk}
 use Rattle.add_text.specs.declared.runs.Past.{Past}
 use Rattle.add_text.specs.declared.walk.Walked.{Walked}

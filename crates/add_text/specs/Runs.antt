@@ -16,7 +16,7 @@ use Rattle.block.specs.Flat as flat
 use Rattle.hard_wrap.specs.Hold.{setup}
 use Rattle.hard_wrap.specs.declared.line.Frame.{Frame}
 use Rattle.add_text.specs.Walks.{RunIs, WalkKeeps}
-use Rattle.add_text.specs.declared.walk.Run.{Run}
+use Rattle.add_text.specs.declared.text.Run.{Run}
 use Rattle.add_text.specs.declared.walk.Walk.{Walk}
 use Rattle.add_text.specs.declared.runs.Take.{Take}
 use Rattle.add_text.specs.declared.runs.Past.{Past}

@@ -22,7 +22,7 @@ use Rattle.flush_word.specs.declared.state.State.{State}
 use Rattle.flush_word.specs.declared.state.Flushed.{Flushed}
 use Rattle.flush_word.specs.declared.state.Flushed.the-variants.{Done}
 use Rattle.flush_word.specs.declared.state.Flushed.the-variants as flushed
-use Rattle.add_text.specs.declared.walk.Run.{Run}
+use Rattle.add_text.specs.declared.text.Run.{Run}
 use Rattle.add_text.specs.declared.walk.Walk.{Walk}
 use Rattle.add_text.specs.declared.walk.Walked.{Walked}
 use Rattle.add_text.specs.declared.walk.Walked.the-variants.{On}

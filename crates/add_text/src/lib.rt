@@ -3,8 +3,8 @@
 //
 // The functions are for the crates above, which show what they require: room in the lent buffers and in
 // the numbers of the state.
-pub mod chars;
-pub mod runs;
-pub mod stops;
+mod chars;
+mod runs;
+mod stops;
 pub mod text;
-pub mod walk;
+mod walk;

@@ -1,6 +1,5 @@
 // `add_text` and `add_element`.
 use crate::runs::add_plain;
-use crate::walk::Run;
 use crate::walk::Walk;
 use crate::walk::Walked;
 use crate::walk::add_char;
@@ -20,6 +19,13 @@ ghost use lib.ListN.{length};
 ghost use Rattle.characters.specs.If.{if_then_else_};
 ghost use Rattle.flush_word.specs.Keep.{Small, Lent};
 ghost use Rattle.add_text.specs.Walks.{RunSmall, TextSmall, AddsText, AddsElement};
+
+// What a T field says of its text: the mode, 0 to 2, and the two annotations.
+pub struct Run {
+    pub mode: u32,
+    pub main: u32,
+    pub wrap: u32,
+}
 
 // The annotation that a text begins with: the continued one while a wrap of Pre text stands.
 fn first_annotation(run: Run, wrapped: bool) -> u32

@@ -4,6 +4,7 @@ use crate::chars::keep_blank;
 use crate::chars::push_word;
 use crate::stops::newline;
 use crate::stops::tab;
+use crate::text::Run;
 use characters::columns::Columns;
 use characters::columns::columns_of;
 use characters::whitespace::always_takes_space;
@@ -23,13 +24,6 @@ ghost use Rattle.flush_word.specs.Keep.{Small, Lent, StaysSmall};
 ghost use Rattle.add_text.specs.Chars.{Fits};
 ghost use Rattle.add_text.specs.Walks.{RunSmall, Ready, WalkedSmall, WalkSmall, CharIs, wrappedOn};
 ghost use Rattle.add_text.specs.Walks.{AddsNewline, AddsTab, AddsKept, AddsCollapsed, AddsInk, BreaksWord, AddsBlank, PutsChar, AddsChar};
-
-// What a T field says of its text: the mode, 0 to 2, and the two annotations.
-pub struct Run {
-    pub mode: u32,
-    pub main: u32,
-    pub wrap: u32,
-}
 
 // The state, and the annotation in use (the local `tag` of `add_text`).
 pub struct Walk {

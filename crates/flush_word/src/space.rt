@@ -1,14 +1,14 @@
 // Pending blanks where a word does not fit ("Not enough space" in `flush_word`).
 use crate::state::Blanks;
 use crate::state::State;
-use crate::state::mode_of;
 use crate::state::no_blanks;
 use crate::trim::trimmed_end;
 use hard_wrap::line::Frame;
 use hard_wrap::line::Open;
 use hard_wrap::wrap::less;
 use lines::buffer::push_blanks;
-ghost use Prim.Native.Nat.{_<_, _≤_};
+ghost use mathlib.Core.Path.{_≡_};
+ghost use Prim.Native.Nat.{_/_, _<_, _≤_};
 ghost use lib.ListN.{length};
 ghost use Rattle.flush_word.specs.Keep.{Small, Lent, Dropping, KeepsPre, Trimmed, TrimsLine, Drops};
 
@@ -16,6 +16,13 @@ ghost use Rattle.flush_word.specs.Keep.{Small, Lent, Dropping, KeepsPre,
 pub struct Dropped {
     pub line: Open,
     pub blanks: Blanks,
+}
+
+// The mode of a tag: 0 Normal, 1 Pre, 2 PreWrap.
+pub fn mode_of(tag: u32) -> u32
+    ensures { λ r. ⌜ r ≡ tag / 65536 ⌝ }
+{
+    tag / 65536
 }
 
 // Pre: what exceeds the rest of the line is carried on where the blanks reach it; else they are written.

@@ -1,6 +1,5 @@
 // The block's state by value (`WrappedBlock`); the bytes of line and word stand in lent buffers.
 ghost use mathlib.Core.Path.{_≡_};
-ghost use Prim.Native.Nat.{_/_};
 ghost use Rattle.flush_word.specs.Keep.{noWord, noBlanks};
 use hard_wrap::line::Open;
 
@@ -31,13 +30,6 @@ pub struct State {
 pub enum Flushed {
     Done(State),
     Narrow,
-}
-
-// The mode of a tag: 0 Normal, 1 Pre, 2 PreWrap.
-pub fn mode_of(tag: u32) -> u32
-    ensures { λ r. ⌜ r ≡ tag / 65536 ⌝ }
-{
-    tag / 65536
 }
 
 // A word of nothing.

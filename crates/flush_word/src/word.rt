@@ -1,9 +1,9 @@
 // `flush_word`.
 use crate::space::drop_blanks;
+use crate::space::mode_of;
 use crate::state::Blanks;
 use crate::state::Flushed;
 use crate::state::State;
-use crate::state::mode_of;
 use crate::state::no_blanks;
 use crate::state::no_word;
 use crate::trim::white_front;

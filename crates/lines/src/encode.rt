@@ -49,7 +49,7 @@ pub fn run_end(tags: &[u32], i: usize) -> usize
 }
 
 // One piece from its bytes, a name's mark among them, and its first entry's tag.
-pub fn put_piece(out: &mut [u8], at: usize, part: &[u8], tag: u32) -> usize
+fn put_piece(out: &mut [u8], at: usize, part: &[u8], tag: u32) -> usize
     requires { ⌜ (0 < length (now part)) × (length (now part) < 65535) × (at + length (now part) + 4 < 2 ^ 62) ⌝ }
     ensures { λ r. ⌜ r ≤ at + length (now (part .entry)) + 4 ⌝ }
     ensures { λ r. ⌜ Wrote (now (out .entry)) at (fieldOf tag (now (part .entry))) (now (out .exit)) r ⌝ }
@@ -63,7 +63,7 @@ pub fn put_piece(out: &mut [u8], at: usize, part: &[u8], tag: u32) -> usize
 }
 
 // The pieces of a line, one after the other.
-pub fn put_pieces(out: &mut [u8], at: usize, bytes: &[u8], tags: &[u32]) -> usize
+fn put_pieces(out: &mut [u8], at: usize, bytes: &[u8], tags: &[u32]) -> usize
     requires { ⌜ (length (now bytes) ≡ length (now tags)) × (length (now bytes) < 65535) × (at + 5 * length (now bytes) < 2 ^ 62) ⌝ }
     ensures { λ r. ⌜ r ≤ at + 5 * length (now (bytes .entry)) ⌝ }
     ensures { λ r. ⌜ Wrote (now (out .entry)) at (content (zip (now (bytes .entry)) (now (tags .entry)))) (now (out .exit)) r ⌝ }
@@ -79,7 +79,7 @@ pub fn put_pieces(out: &mut [u8], at: usize, bytes: &[u8], tags: &[u32]) -> usiz
 }
 
 // A whole line: first what it holds, and then its head in front of it.
-pub fn put_line(out: &mut [u8], at: usize, bytes: &[u8], tags: &[u32]) -> usize
+fn put_line(out: &mut [u8], at: usize, bytes: &[u8], tags: &[u32]) -> usize
     requires { ⌜ (length (now bytes) ≡ length (now tags)) × (length (now bytes) < 13107) × (at + 5 * length (now bytes) + 3 < 2 ^ 62) ⌝ }
     ensures { λ r. ⌜ (at + 3 ≤ r) × (r ≤ at + 3 + 5 * length (now (bytes .entry))) ⌝ }
     ensures { λ r. ⌜ Wrote (now (out .entry)) at (lineField (zip (now (bytes .entry)) (now (tags .entry)))) (now (out .exit)) r ⌝ }

@@ -26,7 +26,7 @@ use Rattle.flush_word.specs.declared.state.State.{State}
 use Rattle.flush_word.specs.declared.state.Flushed.{Flushed}
 use Rattle.flush_word.specs.declared.state.Flushed.the-variants.{Done, Narrow}
 use Rattle.add_text.specs.Walks.{RunSmall, RunIs, TextSmall, AddsText, AddsElement}
-use Rattle.add_text.specs.declared.walk.Run.{Run}
+use Rattle.add_text.specs.declared.text.Run.{Run}
 use Rattle.render.specs.Render.{runOf, AddsField, AddsFields}
 use Rattle.add_text.proofs.Walking.{lent-word}
 

@@ -16,7 +16,7 @@ use Rattle.hard_wrap.specs.declared.line.Open.{Open}
 use Rattle.flush_word.specs.Keep.{noWord, noBlanks, Keeps, ResultIs}
 use Rattle.flush_word.specs.declared.state.State.{State}
 use Rattle.flush_word.specs.declared.state.Flushed.{Flushed}
-use Rattle.add_text.specs.declared.walk.Run.{Run}
+use Rattle.add_text.specs.declared.text.Run.{Run}
 use Rattle.render.specs.declared.sheet.Lines.{Lines}
 use Rattle.render.specs.declared.sheet.Lines.the-variants.{Closed, Narrow}
 

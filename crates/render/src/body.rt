@@ -1,7 +1,7 @@
 // The fields of a job after its W, each added to the block. What a function here requires, its callers in this crate show.
+use add_text::text::Run;
 use add_text::text::add_element;
 use add_text::text::add_text;
-use add_text::walk::Run;
 use fields::field::Field;
 use fields::field::field_at;
 use flush_word::state::Flushed;
