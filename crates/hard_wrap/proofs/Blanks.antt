@@ -4,22 +4,20 @@ use mathlib.Core.Path.{_≡_, refl, sym, ap, _∙_, subst}
 use mathlib.Core.Logic.{inl}
 use mathlib.Core.Bool.{Bool, true, false}
 use mathlib.Core.Option.{some}
-use mathlib.Core.List.{List, [], _∷_, _++_, map}
+use mathlib.Core.List.{List, [], _∷_, _++_}
 use Prim.Native.Nat.{ℕ, zero, suc, _+_, _-_, _*_, _<_, _≤_}
 use native.Mathlib.Omega.{arith}
-use native.Mathlib.Numerals.{add-one}
-use borrow.Author.Tests.{le-leb, lt-leb, lt-ltb, le-ltb}
-use lib.ListN.{length, take, drop, getD, drop-of-length-le}
-use lib.Seq.{drop-cons, length-take-le}
+use borrow.Author.Tests.{le-leb, lt-leb}
+use lib.ListN.{length}
 use Rattle.characters.specs.Columns.{columnsOf, widthOf, cols, width}
 use Rattle.characters.specs.Utf8.{utf8, textBytes}
 use Rattle.fields.specs.declared.job.Setup.{Setup}
 use Rattle.block.specs.Tag.{Tag}
 use Rattle.block.specs.Flat.{Line, char, name, Block, hasText, columns, pushChar, onLine, flushLine, forceFlushLine, writeBlank, writeBlanks}
-use Rattle.lines.specs.Items.{Item, item, items, zip, tagOf, markTag, nameTag}
-use Rattle.lines.specs.Bridge.{num, tagged, enc, Valid}
+use Rattle.lines.specs.Items.{Item, item, items}
+use Rattle.lines.specs.Bridge.{num, tagged, enc}
 use Rattle.lines.proofs.Buffers.{items-none, items-length}
-use Rattle.lines.proofs.Encoded.{utf8-some, enc-none}
+use Rattle.lines.proofs.Encoded.{enc-none}
 use Rattle.hard_wrap.specs.Hold.{setup, Holds}
 use Rattle.hard_wrap.specs.declared.line.Frame.{Frame}
 use Rattle.hard_wrap.specs.declared.line.Open.{Open}

@@ -3,7 +3,7 @@
 use mathlib.Core.Path.{_≡_, refl, sym, ap, _∙_}
 use mathlib.Core.Bool.{Bool, true, false}
 use mathlib.Core.List.{List, [], _∷_, _++_, map}
-use Prim.Native.Nat.{ℕ, zero, suc, _<_, _≤_}
+use Prim.Native.Nat.{ℕ, suc, _<_, _≤_}
 use native.Mathlib.Omega.{arith}
 use lib.ListN.{length, take, drop}
 use Rattle.characters.specs.Utf8.{textBytes}
@@ -13,7 +13,7 @@ use Rattle.block.specs.Flat.{Line, char, name}
 use Rattle.lines.specs.Items.{Item, item, zip, byteOf, tagOf, markTag, nameTag}
 use Rattle.lines.specs.Encode.{runT, startsWith}
 use Rattle.lines.specs.Bridge.{num, tagged, enc, Valid, text, Cut}
-use Rattle.lines.proofs.Buffers.{zip-bytes, zip-tags, zip-nil, zip-drop, drop-tagged}
+use Rattle.lines.proofs.Buffers.{zip-bytes, zip-tags, zip-drop, drop-tagged}
 use Rattle.lines.proofs.Encoded.{enc-append, enc-text, starts-cut, starts-after-name, run-text, run-name, num-small, utf8-some, valid-text-scalars}
 use Rattle.block.proofs.Group.{same-tag}
 

@@ -6,8 +6,7 @@ use Prim.Native.Nat.{ℕ}
 use native.Mathlib.Omega.{arith}
 use lib.ListN.{length}
 use Rattle.characters.specs.Utf8.{Scalar, decodeOf, utf8}
-use Rattle.characters.specs.Columns.{columnsOf, widthIn, orZero, widthOf, cols}
-use Rattle.characters.specs.declared.columns.Columns.{Columns}
+use Rattle.characters.specs.Columns.{cols}
 use Rattle.characters.specs.declared.utf8.Decoded.the-variants.{Char, Bad}
 use Rattle.characters.proofs.RoundTrip.{decode-complete}
 use Rattle.hard_wrap.specs.Walk.{Shows}

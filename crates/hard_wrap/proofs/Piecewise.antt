@@ -1,6 +1,6 @@
 -- A piece, line by line, over plain lists.
 -- Assumes nothing.
-use mathlib.Core.Path.{_≡_, refl, sym, ap, _∙_}
+use mathlib.Core.Path.{_≡_, refl, sym, ap, subst, _∙_}
 use mathlib.Core.Option.{none}
 use mathlib.Core.List.{List, [], _++_}
 use Prim.Native.Nat.{ℕ, _+_, _-_, _*_, _<_, _≤_, min}
@@ -12,16 +12,23 @@ use Rattle.characters.specs.Utf8.{textBytes}
 use Rattle.characters.proofs.RoundTrip.{Scalars}
 use Rattle.fields.specs.declared.job.Setup.{Setup}
 use Rattle.block.specs.Tag.{Tag}
+use Rattle.block.specs.Result.{tooNarrow}
 use Rattle.block.specs.Flat.{Line, Block, withLine, hardWrap}
 use Rattle.characters.proofs.Runs.{width-append}
 use Rattle.lines.specs.Bridge.{num, text}
 use Rattle.lines.proofs.Encoded.{scalars-right}
 use Rattle.lines.proofs.HardWrap.{piece-fits}
-use Rattle.hard_wrap.specs.Hold.{setup, Holds, Stepped, Pieced}
+use Rattle.hard_wrap.specs.Hold.{setup, Holds, Moved, Forward, StepIs, Pieced}
 use Rattle.hard_wrap.specs.declared.line.Frame.{Frame}
 use Rattle.hard_wrap.specs.declared.line.Open.{Open}
+use Rattle.hard_wrap.specs.declared.wrap.Step.{Step}
+use Rattle.hard_wrap.specs.declared.wrap.Step.the-variants.{On, Stuck}
 use Rattle.hard_wrap.proofs.Turns.{text-drop}
 use Rattle.hard_wrap.proofs.Walks.{text-none}
+
+-- A line of a piece after which another is open: its numbers.
+pub forward-on : {st r : Open} {m split used : ℕ} {s : Step} → s ≡ On r split used → Forward st m s → Moved st m r split used
+forward-on {st = st} {m = m} e f = subst (λ (x : Step). Forward st m x) e f
 
 -- what is left of the piece
 pub record PieceLeft (s : Setup) (d₀ : List ℕ) (base : ℕ) (b : Block) (t : Tag) (cs piece : List ℕ) (cur : Open) (wpos bpos : ℕ) (lb lt out : List ℕ) : Type 0 where
@@ -40,9 +47,10 @@ module _ (s : Setup) (d₀ : List ℕ) (base : ℕ) (b : Block) (t : Tag) (cs pi
 
   module _ (cur : Open) (wpos bpos : ℕ) (lb lt out : List ℕ) (g : PieceLeft s d₀ base b t cs piece cur wpos bpos lb lt out) where
     -- one line further
-    pub piece-turn : (r : Open) (split used : ℕ) (lb′ lt′ out′ : List ℕ) → Stepped s d₀ base (g .next) t (g .q) r split used lb′ lt′ out′
+    pub piece-turn : {r : Open} {split used : ℕ} {o : Step} → o ≡ On r split used → (lb′ lt′ out′ : List ℕ) → StepIs s d₀ base (g .next) t (g .q) o lb′ lt′ out′
         → PieceLeft s d₀ base b t cs piece r (wpos + used) (bpos + split) lb′ lt′ out′
-    piece-turn r split used lb′ lt′ out′ x =
+    piece-turn {split = split} e lb′ lt′ out′ y =
+        let x = subst (λ (z : Step). StepIs s d₀ base (g .next) t (g .q) z lb′ lt′ out′) e y in
         record {
           q = x .q;
           next = x .next;
@@ -52,6 +60,10 @@ module _ (s : Setup) (d₀ : List ℕ) (base : ℕ) (b : Block) (t : Tag) (cs pi
           holds = x .holds;
           same = λ w. g .same w ∙ x .same w;
         }
+
+    -- a character that no line takes
+    pub piece-stuck : {o : Step} → o ≡ Stuck → (lb′ lt′ out′ : List ℕ) → StepIs s d₀ base (g .next) t (g .q) o lb′ lt′ out′ → (w : Line) → hardWrap s (text t cs ++ w) none b ≡ tooNarrow
+    piece-stuck e lb′ lt′ out′ y w = g .same w ∙ subst (λ (z : Step). StepIs s d₀ base (g .next) t (g .q) z lb′ lt′ out′) e y w
 
     -- the rest goes on the open line
     pub piece-rest : (frame : Frame) → s ≡ setup frame → (r : Open) (lb′ lt′ : List ℕ) (used w : ℕ)

@@ -5,8 +5,9 @@ use mathlib.Core.Bool.{Bool, true, false}
 use mathlib.Core.Option.{none}
 use mathlib.Core.List.{List, [], _∷_, _++_, append-nil}
 use Prim.Native.Nat.{ℕ, _+_, _-_, _<_, _≤_}
+use native.Mathlib.Nat.{le-of-eq}
 use native.Mathlib.Omega.{arith}
-use lib.ListN.{length, take, drop, length-append}
+use lib.ListN.{length, take, drop}
 use lib.Seq.{take-append-seam, drop-append-seam}
 use Rattle.characters.specs.If.{if_then_else_}
 use Rattle.characters.specs.Utf8.{utf8, textBytes}
@@ -17,9 +18,10 @@ use Rattle.block.specs.Result.{Result, tooNarrow}
 use Rattle.block.specs.Flat.{Line, Block, columns, withLine, forceFlushLine, hardWrap}
 use Rattle.characters.proofs.Runs.{textBytes-append, width-append}
 use Rattle.lines.specs.Bridge.{num, text}
-use Rattle.lines.proofs.Encoded.{scalars-left, utf8-pos}
+use Rattle.lines.proofs.Encoded.{scalars-left}
 use Rattle.lines.proofs.HardWrap.{splits, too-wide}
 use Rattle.hard_wrap.specs.Walk.{Shows, Split}
+use Rattle.hard_wrap.proofs.Walks.{text-none}
 use Rattle.hard_wrap.specs.Hold.{setup, Holds, Ends, Stepped}
 use Rattle.hard_wrap.specs.declared.line.Frame.{Frame}
 use Rattle.hard_wrap.specs.declared.line.Open.{Open}
@@ -36,11 +38,6 @@ some-chars : (p : List ℕ) (at k : ℕ) → at ≡ length (textBytes p) → 0 <
 unfolding textBytes
 some-chars [] at k e h = omega arith
 some-chars (c ∷ p) at k e h = omega arith
-
-no-chars : (p : List ℕ) → 0 ≡ length (textBytes p) → p ≡ []
-unfolding textBytes
-no-chars [] e = refl
-no-chars (c ∷ p) e = absurd (let h = utf8-pos c in omega (arith, length-append (utf8 c) (textBytes p)))
 
 module _ (frame : Frame) (st r : Open) (rest lb lt out lb′ lt′ out′ d₀ : List ℕ) (base : ℕ) (tag : ℕ) (b : Block) (t : Tag) (cs : List ℕ)
     (o : Holds d₀ base b st lb lt out) (ta : tag ≡ num t) (ann : t .ann < 256) (sc : Scalars cs) (e : rest ≡ textBytes cs)
@@ -79,11 +76,11 @@ module _ (frame : Frame) (st r : Open) (rest lb lt out lb′ lt′ out′ d₀ :
   -- a character that no line takes: on a line of its own
   module _ (at used : ℕ) (s : Split (frame .width - st .cols) cs at used) (zero-at : at ≡ 0) (empty : st .cols ≡ 0) where
     first : (q : List ℕ) → s .q ≡ q → cs ≡ q
-    first q f = s .whole ∙ ap (λ (z : List ℕ). z ++ s .q) (no-chars (s .p) (sym zero-at ∙ s .place)) ∙ f
+    first q f = s .whole ∙ ap (λ (z : List ℕ). z ++ s .q) (text-none (s .p) (le-of-eq (sym (s .place) ∙ zero-at))) ∙ f
 
     none-used : used ≡ 0
     unfolding width
-    none-used = s .cols ∙ ap width (no-chars (s .p) (sym zero-at ∙ s .place))
+    none-used = s .cols ∙ ap width (text-none (s .p) (le-of-eq (sym (s .place) ∙ zero-at)))
 
     -- what the flat hard wrap makes of such a character
     abbrev Alone : ℕ → List ℕ → Line → Bool → Result Block

@@ -4,10 +4,9 @@ use mathlib.Core.Path.{_≡_, refl, sym, ap, _∙_}
 use mathlib.Core.Bool.{true}
 use mathlib.Core.List.{List, [], _∷_, _++_, append-nil, append-assoc}
 use Prim.Native.Nat.{ℕ, _+_, _-_, _<_, _≤_}
-use native.Mathlib.Nat.{le-of-eq}
 use native.Mathlib.Omega.{arith}
-use lib.ListN.{length, take, drop, length-append, length-drop, take-append-drop}
-use lib.Seq.{drop-drop, take-all, drop-append-seam}
+use lib.ListN.{length, take, drop, length-append, length-drop}
+use lib.Seq.{drop-drop, drop-append-seam}
 use Rattle.characters.specs.Utf8.{utf8, textBytes}
 use Rattle.characters.specs.Columns.{cols, width}
 use Rattle.characters.specs.Plain.{PlainRun}
@@ -55,20 +54,18 @@ module _ (part cs : List ℕ) where
       let l : textBytes (c ∷ []) ≡ utf8 c = append-nil (utf8 c) in
       on-more p (c ∷ []) q i used len k w (rw l d) a u (rw l e) (omega arith)
 
-  -- a run of plain characters further, which stands in the next m bytes
-  pub going-run : (i used len k m : ℕ) → Scalars cs → PlainRun true (take m (drop i part)) len k → Going part cs i used
+  -- a run of plain characters further
+  pub going-run : (i used len k : ℕ) → Scalars cs → PlainRun true (take (length part - i) (drop i part)) len k → Going part cs i used
       → Going part cs (i + len) (used + k)
-  going-run i used len k m s r o =
+  going-run i used len k s run o =
+      let r = rw (rest part i) at run in
       let v : Scalars (o .q) = scalars-right (o .p) (o .q) (rw (o .whole) at s) in
-      let b : List ℕ = drop m (drop i part) in
-      let e : drop i part ≡ textBytes (r .cs) ++ (r .rest ++ b) =
-      sym (take-append-drop m (drop i part)) ∙ ap (λ (l : List ℕ). l ++ b) (r .whole) ∙ append-assoc (textBytes (r .cs)) (r .rest) b in
-      let z = text-front (o .q) (r .cs) (r .rest ++ b) v (plain-scalars true (r .cs) (r .plain)) (sym (o .rest) ∙ e) in
+      let z = text-front (o .q) (r .cs) (r .rest) v (plain-scalars true (r .cs) (r .plain)) (sym (o .rest) ∙ r .whole) in
       let w : cs ≡ o .p ++ (r .cs ++ z .0) = o .whole ∙ ap (λ (x : List ℕ). o .p ++ x) (z .1) in
       let d : drop i part ≡ textBytes (r .cs) ++ textBytes (z .0) = o .rest ∙ ap textBytes (z .1) ∙ textBytes-append (r .cs) (z .0) in
       on-more (o .p) (r .cs) (z .0) i used len k w d (o .at) (o .cols) (r .bytes) (r .columns)
 
-  module _ (i used len k : ℕ) (s : Scalars cs) (h : i < length part) (g : Shows (drop i part) len k) where
+  module _ (i used len k : ℕ) (s : Scalars cs) (h : i < length part) (g : Shows (take (length part - i) (drop i part)) len k) where
     -- one character further
     pub going-on : Going part cs i used → Going part cs (i + len) (used + k)
     unfolding textBytes
@@ -80,7 +77,7 @@ module _ (part cs : List ℕ) where
             let w : cs ≡ o .p ++ (c ∷ q) = o .whole ∙ ap (λ (x : List ℕ). o .p ++ x) e in
             let v : Scalars (c ∷ q) = scalars-right (o .p) (c ∷ q) (rw w at s) in
             let r : drop i part ≡ utf8 c ++ textBytes q = o .rest ∙ ap textBytes e in
-            let x = g c (textBytes q) (v .0) r in
+            let x = g c (textBytes q) (v .0) (rest part i ∙ r) in
             on-record (o .p) c q i used len k w r (o .at) (o .cols) (x .0) (x .1)
 
     -- a character that is too wide
@@ -94,7 +91,7 @@ module _ (part cs : List ℕ) where
             let w : cs ≡ o .p ++ (c ∷ q) = o .whole ∙ ap (λ (x : List ℕ). o .p ++ x) e in
             let v : Scalars (c ∷ q) = scalars-right (o .p) (c ∷ q) (rw w at s) in
             let r : drop i part ≡ utf8 c ++ textBytes q = o .rest ∙ ap textBytes e in
-            let x = g c (textBytes q) (v .0) r in
+            let x = g c (textBytes q) (v .0) (rest part i ∙ r) in
             record { p = o .p; q = c ∷ q; whole = w; place = o .at; cols = o .cols; stop = (let y = x .1 in omega arith) }
 
   -- the end of the text
@@ -104,3 +101,7 @@ module _ (part cs : List ℕ) where
       let e : o .q ≡ [] = text-none (o .q) (omega arith) in
       let w : cs ≡ o .p ++ [] = o .whole ∙ ap (λ (x : List ℕ). o .p ++ x) e in
       (record { p = o .p; q = []; whole = w; place = o .at; cols = o .cols; stop = tt }, o .cols ∙ ap width (sym (append-nil (o .p)) ∙ sym w))
+
+-- The same place, by another name.
+pub split-same : {left at at′ used : ℕ} {cs : List ℕ} → at ≡ at′ → Split left cs at′ used → Split left cs at used
+split-same e s = rw e s

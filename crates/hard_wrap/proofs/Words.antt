@@ -10,12 +10,12 @@ use lib.ListN.{length, take, drop, getD, length-drop, drop-of-length-le}
 use lib.Seq.{drop-drop, drop-cons}
 use Rattle.fields.specs.declared.job.Setup.{Setup}
 use Rattle.block.specs.Result.{tooNarrow}
-use Rattle.block.specs.Flat.{Line, char, name, Block, hardWrap}
-use Rattle.lines.specs.Items.{item, zip, markTag}
+use Rattle.block.specs.Flat.{Line, Block, hardWrap}
+use Rattle.lines.specs.Items.{zip, markTag}
 use Rattle.lines.specs.Encode.{runT}
-use Rattle.lines.specs.Bridge.{num, tagged, enc, Valid, text, Cut}
+use Rattle.lines.specs.Bridge.{enc, Valid, text, Cut}
 use Rattle.lines.proofs.Buffers.{zip-nil}
-use Rattle.lines.proofs.Encoded.{utf8-some, enc-none}
+use Rattle.lines.proofs.Encoded.{enc-none}
 use Rattle.hard_wrap.specs.Hold.{setup, Holds, Pieced, Pieces, PieceIs, Worded}
 use Rattle.hard_wrap.specs.declared.line.Frame.{Frame}
 use Rattle.hard_wrap.specs.declared.line.Open.{Open}

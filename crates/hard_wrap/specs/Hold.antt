@@ -17,6 +17,7 @@ use Rattle.block.specs.Result.{Result, good, tooNarrow}
 use Rattle.block.specs.Flat.{Line, Block, columns, withLine, forceFlushLine, hardWrap, sheetLine}
 use Rattle.lines.specs.Items.{Item, item, items, zip}
 use Rattle.lines.specs.Bridge.{num, enc, Valid, text, Cut}
+use Rattle.hard_wrap.specs.Walk.{Split}
 use Rattle.hard_wrap.specs.declared.line.Frame.{Frame}
 use Rattle.hard_wrap.specs.declared.line.Open.{Open}
 use Rattle.hard_wrap.specs.declared.wrap.Step.{Step}
@@ -130,11 +131,11 @@ abbrev pub StepIs : Setup → List ℕ → ℕ → Block → Tag → List ℕ �
 StepIs s d₀ base b t cs Stuck lb lt out = (w : Line) → hardWrap s (text t cs ++ w) none b ≡ tooNarrow
 StepIs s d₀ base b t cs (On r split used) lb lt out = Stepped s d₀ base b t cs r split used lb lt out
 
--- the step that `wrap_line` makes, where the rest of the piece does not fit
-abbrev pub Steps : Frame → Open → List ℕ → ℕ → List ℕ → List ℕ → List ℕ → Step → List ℕ → List ℕ → List ℕ → Type 0
-Steps frame st rest tag lb lt out r lb′ lt′ out′ =
+-- the step that `wrap_line` makes at the place where the walk over the characters stopped, where the rest of the piece does not fit
+abbrev pub Steps : Frame → Open → List ℕ → ℕ → ℕ → ℕ → List ℕ → List ℕ → List ℕ → Step → List ℕ → List ℕ → List ℕ → Type 0
+Steps frame st rest split used tag lb lt out r lb′ lt′ out′ =
     (d₀ : List ℕ) (base : ℕ) (b : Block) (t : Tag) (cs : List ℕ) → Holds d₀ base b st lb lt out → tag ≡ num t → t .ann < 256 → Scalars cs → rest ≡ textBytes cs → frame .width < st .cols + width cs
-    → StepIs (setup frame) d₀ base b t cs r lb′ lt′ out′
+    → Split (frame .width - st .cols) cs split used → StepIs (setup frame) d₀ base b t cs r lb′ lt′ out′
 
 -- a whole piece
 pub record Pieced (s : Setup) (d₀ : List ℕ) (base : ℕ) (b : Block) (t : Tag) (cs : List ℕ) (r : Open) (lb lt out : List ℕ) : Type 0 where

@@ -31,10 +31,6 @@ pub record Split (left : ℕ) (cs : List ℕ) (at used : ℕ) : Type 0 where
   pub cols : used ≡ width p
   pub stop : Stops (left - used) q
 
--- what `fit` finds
-abbrev pub Fits : List ℕ → ℕ → ℕ → ℕ → Type 0
-Fits part left at used = (cs : List ℕ) → Scalars cs → part ≡ textBytes cs → Split left cs at used
-
 -- what `width_of` finds
 abbrev pub Widths : List ℕ → ℕ → Type 0
 Widths part r = (cs : List ℕ) → Scalars cs → part ≡ textBytes cs → r ≡ width cs

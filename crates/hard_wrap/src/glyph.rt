@@ -1,28 +1,25 @@
-// The character at the front of a text, and how many of a text's characters fit so many columns: the
-// `char_indices` loop and the `width` of `flush_word_hard_wrap`, over bytes. Each function answers for
-// bytes that are no text too; what it says of characters holds for those that the bytes are the UTF-8 of.
+// The character at the front of a text, a run of plain ones there, and a text's columns: what the `char_indices`
+// and the `width` of `flush_word_hard_wrap` give, over bytes. Each function answers for bytes that are no
+// text too; what it says of characters holds for those that the bytes are the UTF-8 of.
 use characters::columns::Columns;
 use characters::columns::columns_of;
+use characters::plain::Plain;
 use characters::plain::plain_run;
 use characters::utf8::Decoded;
 use characters::utf8::decode;
 use fields::field::wide;
 ghost use mathlib.Core.Path.{_≡_};
+ghost use mathlib.Core.Bool.{true};
 ghost use Prim.Native.Nat.{_*_, _^_, _≤_, _<_, min};
 ghost use lib.ListN.{length};
 ghost use Rattle.characters.specs.Columns.{cols};
-ghost use Rattle.hard_wrap.specs.Walk.{Shows, Fits, Widths};
+ghost use Rattle.characters.specs.Plain.{PlainRun};
+ghost use Rattle.hard_wrap.specs.Walk.{Shows, Widths};
 
 // A character's bytes and columns.
 pub struct Shape {
     pub len: usize,
     pub cols: usize,
-}
-
-// A place in a text, and the columns before it.
-pub struct Place {
-    pub at: usize,
-    pub used: usize,
 }
 
 // `UnicodeWidthChar::width(c).unwrap_or(0)`.
@@ -64,30 +61,13 @@ pub fn glyph(part: &[u8]) -> Shape
     }
 }
 
-// How much of a text fits so many columns: up to the first character that is too wide for what is left.
-pub fn fit(part: &[u8], left: usize) -> Place
-    requires { ⌜ left < 2 ^ 62 ⌝ }
-    ensures { λ r. ⌜ (r .at ≤ length (now (part .entry))) × (r .used ≤ left) ⌝ }
-    ensures { λ r. ⌜ Fits (now (part .entry)) left (r .at) (r .used) ⌝ }
+// The plain characters that a text starts with, so many columns of them at most.
+pub fn plain_within(part: &[u8], left: usize) -> Plain
+    ensures { λ r. ⌜ (r .len ≤ length (now (part .entry))) × (r .cols ≤ left) ⌝ }
+    ensures { λ r. ⌜ PlainRun true (now (part .entry)) (r .len) (r .cols) ⌝ }
 {
-    let mut i = 0;
-    let mut used = 0;
-    let at = 'walk: loop {
-        let end = i + least(part.len() - i, left - used);
-        let run = plain_run(&part[i..end], true);
-        used += run.cols;
-        i += run.len;
-        if i >= part.len() {
-            break 'walk i;
-        }
-        let g = glyph(&part[i..]);
-        if left - used < g.cols {
-            break 'walk i;
-        }
-        used += g.cols;
-        i += g.len;
-    };
-    Place { at, used }
+    let end = least(part.len(), left);
+    plain_run(&part[..end], true)
 }
 
 // `UnicodeWidthStr::width`.

@@ -1,8 +1,8 @@
-// A word hard-wrapped, piece by piece and line by line (`flush_word_hard_wrap`): `wrap_line` is one turn of
-// the Rust's `while wpos + linelen < w`, `wrap_piece` a turn of its loop over the word's strings, and
-// `hard_wrap` that loop.
-use crate::glyph::fit;
+// A word hard-wrapped, piece by piece and line by line (`flush_word_hard_wrap`): `hard_wrap` is the Rust's loop
+// over the word's strings, `wrap_piece` a turn of it, with the `while w - wpos > lineleft` and in it the walk over
+// the characters, and `wrap_line` what is done where the walk stops.
 use crate::glyph::glyph;
+use crate::glyph::plain_within;
 use crate::glyph::width_of;
 use crate::line::Frame;
 use crate::line::Open;
@@ -27,23 +27,24 @@ pub enum Wrapped {
     Narrow,
 }
 
-// One line of a piece that does not fit: what fits of the rest goes on it, or a character that no line takes.
+// One line of a piece that does not fit: what is before the split place goes on it, or a character that no line takes.
 pub fn wrap_line(
     frame: Frame,
     st: Open,
     lb: &mut [u8],
     lt: &mut [u32],
     rest: &[u8],
+    split: usize,
+    used: usize,
     tag: u32,
     out: &mut [u8],
 ) -> Step
     requires { ⌜ Room frame st (length (now rest)) 1 (length (now lb)) (length (now lt)) ⌝ }
-    requires { ⌜ (st .cols ≤ frame .width) × (0 < length (now rest)) ⌝ }
+    requires { ⌜ (st .cols ≤ frame .width) × (0 < length (now rest)) × (split ≤ length (now rest)) × (used ≤ frame .width - st .cols) ⌝ }
     ensures { λ r. ⌜ Forward st (length (now (rest .entry))) r ⌝ }
-    ensures { λ r. ⌜ Steps frame st (now (rest .entry)) tag (now (lb .entry)) (now (lt .entry)) (now (out .entry)) r (now (lb .exit)) (now (lt .exit)) (now (out .exit)) ⌝ }
+    ensures { λ r. ⌜ Steps frame st (now (rest .entry)) split used tag (now (lb .entry)) (now (lt .entry)) (now (out .entry)) r (now (lb .exit)) (now (lt .exit)) (now (out .exit)) ⌝ }
 {
-    let f = fit(rest, frame.width - st.cols);
-    if f.at == 0 {
+    if split == 0 {
         if st.cols == 0 {
             if frame.overflow {
                 let g = glyph(rest);
@@ -57,11 +58,11 @@ pub fn wrap_line(
             return Step::Stuck;
         }
     }
-    let next = end_line(frame, st, lb, lt, &rest[..f.at], f.used, tag, out);
+    let next = end_line(frame, st, lb, lt, &rest[..split], used, tag, out);
     Step::On {
         st: next,
-        split: f.at,
-        used: f.used,
+        split,
+        used,
     }
 }
 
@@ -95,16 +96,33 @@ pub fn wrap_piece(
     let mut wpos = 0;
     let mut bpos = 0;
     while bpos < piece.len() && wpos + (frame.width - cur.cols) < w {
-        let step = wrap_line(frame, cur, lb, lt, &piece[bpos..], tag, out);
+        let rest = &piece[bpos..];
+        let left = frame.width - cur.cols;
+        let mut idx = 0;
+        let mut used = 0;
+        let split = 'walk: loop {
+            let run = plain_within(&rest[idx..], left - used);
+            used += run.cols;
+            idx += run.len;
+            if idx >= rest.len() {
+                break 'walk rest.len();
+            }
+            let g = glyph(&rest[idx..]);
+            let next = idx + g.len;
+            if left - used < g.cols {
+                break 'walk idx;
+            }
+            used += g.cols;
+            idx = next;
+        };
+        let step = wrap_line(frame, cur, lb, lt, rest, split, used, tag, out);
         match step {
             Step::On { st, split, used } => {
                 cur = st;
                 bpos += split;
                 wpos += used;
             }
-            Step::Stuck => {
-                return Wrapped::Narrow;
-            }
+            Step::Stuck => return Wrapped::Narrow,
         }
     }
     if bpos < piece.len() {

@@ -11,7 +11,6 @@ use Rattle.hard_wrap.specs.Walk.{Going}
 use Rattle.hard_wrap.proofs.Walks.{part-len, going-start, going-run, going-on, going-end}
 use Rattle.hard_wrap.proofs.glyph.width_of.Statement.{statement}
 use Rattle.hard_wrap.proofs.glyph.width_of.Tie as tie
-use Rattle.fields.proofs.Texts.{rest as part-rest}
 
 abbrev Inv-loop : tie.InvT-loop
 Inv-loop part i₀ used₀ i used = (i ≤ length part) × (used ≤ 256 * i) × ((cs : List ℕ) → Scalars cs → part ≡ textBytes cs → Going part cs i used)
@@ -48,7 +47,7 @@ past c cs v e =
     let part = c .before .before .before .before .args .part .now in
     let w = c .before .before .loop in
     let r = c .plain-run .result in
-    going-run part cs (w .i) (w .used) (r .len) (r .cols) (length part - w .i) v (c .plain-run .ensures .1) (w .inv .2 cs v e)
+    going-run part cs (w .i) (w .used) (r .len) (r .cols) v (c .plain-run .ensures .1) (w .inv .2 cs v e)
 
 returns : tie.Need-returns Inv-loop μ-loop
 returns c =
@@ -86,12 +85,11 @@ loop-again c =
     let part = d .before .before .before .before .args .part .now in
     let w = d .before .before .loop in
     let r = d .plain-run .result in
-    let g = c .before .before .glyph in
-    let shows = rw (part-rest part (w .i + r .len)) at (g .ensures .1) in (
+    let g = c .before .before .glyph in (
       omega (arith, g .ensures, part-len part (w .i + r .len)),
       omega (arith, g .ensures, d .plain-run .ensures .0, w .inv),
       λ cs v e.
-          going-on part cs (w .i + r .len) (w .used + r .cols) (g .result .len) (g .result .cols) v (c4 .if1 .left) shows (past d cs v e),
+          going-on part cs (w .i + r .len) (w .used + r .cols) (g .result .len) (g .result .cols) v (c4 .if1 .left) (g .ensures .1) (past d cs v e),
     )
 
 pub width-of-spec : {M : Type 1} → statement M

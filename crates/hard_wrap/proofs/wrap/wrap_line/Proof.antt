@@ -9,12 +9,6 @@ use Rattle.hard_wrap.proofs.Turns.{step-on, step-over, step-stuck}
 use Rattle.hard_wrap.proofs.wrap.wrap_line.Statement.{statement}
 use Rattle.hard_wrap.proofs.wrap.wrap_line.Tie as tie
 
-sub-fit : tie.Need-sub-fit
-sub-fit c = search needs
-
-fit-requires : tie.Need-fit-requires
-fit-requires c κs = search needs
-
 glyph-requires : tie.Need-glyph-requires
 glyph-requires c κs = search needs
 
@@ -23,7 +17,7 @@ slice-aggregate-end-line c = sym (length-take-le _ _ (c .before .before .before 
 
 end-line-requires : tie.Need-end-line-requires
 end-line-requires c κs =
-    let start = c .before .before .before .before .before .before .before .before .before .before .before .before .before .before .before .before .before in
+    let start = c .before .before .before .before .before .before .before .before .before .before .before .before .before in
     let g = c .before .before .before .before .glyph in
     let l = length-take-le (g .result .len) (start .args .rest .now) (g .ensures .0 .1) in
     omega (arith, l, start .pre, g .ensures)
@@ -44,10 +38,8 @@ returns c =
     let c12 = c11 .before in
     let c13 = c12 .before in
     let c15 = c13 .before .before in
-    let c17 = c15 .before .before in
-    let start = c17 .before .before .before .before .before .before .before in
+    let start = c15 .before .before .before .before .before in
     let a = start .args in
-    let f = c17 .fit in
     let g = c11 .glyph in
     let x = c6 .end-line .ensures in (
       record {
@@ -59,34 +51,31 @@ returns c =
         forward = omega (arith, g .ensures);
         small = omega (arith, g .ensures);
       },
-      λ d₀ base b t cs o ta ann sc e w.
+      λ d₀ base b t cs o ta ann sc e w s.
           step-over (a .frame) (a .st) _ (a .rest .now) (a .lb .now) (a .lt .now) (a .out .now) _ _ _ d₀ base (a .tag) b t cs o ta ann sc e w (start .pre .1 .0)
-          (f .result .at) (f .result .used) (f .ensures .1 cs sc e) (c15 .if1 .taken) (c13 .if2 .taken) (g .result .len) (g .result .cols) (g .ensures .1) (c12 .if3 .taken) (x .1),
+          (a .split) (a .used) s (c15 .if1 .taken) (c13 .if2 .taken) (g .result .len) (g .result .cols) (g .ensures .1) (c12 .if3 .taken) (x .1),
     )
 
 returns-2 : tie.Need-returns-2
 returns-2 c =
     let c3 = c .before .before .before in
-    let c5 = c3 .before .before in
-    let start = c5 .before .before .before .before .before .before .before in
-    let a = start .args in
-    let f = c5 .fit in (
+    let start = c3 .before .before .before .before .before in
+    let a = start .args in (
       tt,
-      λ d₀ base b t cs o ta ann sc e w.
+      λ d₀ base b t cs o ta ann sc e w s.
           step-stuck (a .frame) (a .st) (a .st) (a .rest .now) (a .lb .now) (a .lt .now) (a .out .now)
           (a .lb .now) (a .lt .now) (a .out .now) d₀ base (a .tag) b t cs o ta ann sc e w (start .pre .1 .0)
-          (f .result .at) (f .result .used) (f .ensures .1 cs sc e) (c3 .if1 .taken) (c .before .if2 .taken) (c .if3 .left),
+          (a .split) (a .used) s (c3 .if1 .taken) (c .before .if2 .taken) (c .if3 .left),
     )
 
 slice-aggregate-end-line-2 : tie.Need-slice-aggregate-end-line-2
-slice-aggregate-end-line-2 c = sym (length-take-le _ _ (c .before .before .before .before .before .fit .ensures .0 .0))
+slice-aggregate-end-line-2 c = sym (length-take-le _ _ (c .before .before .before .before .before .before .before .before .pre .1 .2))
 
 end-line-requires-2 : tie.Need-end-line-requires-2
 end-line-requires-2 c κs =
-    let start = c .before .before .before .before .before .before .before .before .before .before .before .before .before in
-    let f = c .before .before .before .before .before .before .fit in
-    let l = length-take-le (f .result .at) (start .args .rest .now) (f .ensures .0 .0) in
-    omega (arith, l, start .pre, f .ensures)
+    let start = c .before .before .before .before .before .before .before .before .before in
+    let l = length-take-le (start .args .split) (start .args .rest .now) (start .pre .1 .2) in
+    omega (arith, l, start .pre)
 
 same-length-4 : tie.Need-same-length-4
 same-length-4 c = search needs
@@ -101,32 +90,28 @@ returns-3 : tie.Need-returns-3
 returns-3 c =
     let c6 = c .before .before .before .before .before .before in
     let c11 = c6 .before .before .before .before .before in
-    let c13 = c11 .before .before in
-    let start = c13 .before .before .before .before .before .before .before in
+    let start = c11 .before .before .before .before .before in
     let a = start .args in
-    let f = c13 .fit in
     let x = c6 .end-line2 .ensures in
-    let m : 0 < f .result .at + a .st .cols = ⊎-elim (λ y. omega (arith, y .2 .left)) (λ y. omega (arith, y .left)) (c11 .if1 .came) in (
+    let m : 0 < a .split + a .st .cols = ⊎-elim (λ y. omega (arith, y .2 .left)) (λ y. omega (arith, y .left)) (c11 .if1 .came) in (
       record {
         n = x .0 .n;
         cols = x .0 .cols;
         place = x .0 .place;
         lines = x .0 .lines;
-        inside = f .ensures .0 .0;
+        inside = start .pre .1 .2;
         forward = m;
-        small = omega (arith, f .ensures, start .pre);
+        small = omega (arith, start .pre);
       },
-      λ d₀ base b t cs o ta ann sc e w.
+      λ d₀ base b t cs o ta ann sc e w s.
           step-on (a .frame) (a .st) _ (a .rest .now) (a .lb .now) (a .lt .now) (a .out .now) _ _ _ d₀ base (a .tag) b t cs o ta ann sc e w (start .pre .1 .0)
-          (f .result .at) (f .result .used) (f .ensures .1 cs sc e) (f .ensures .0 .1) m (x .1),
+          (a .split) (a .used) s (start .pre .1 .3) m (x .1),
     )
 
 pub wrap-line-spec : {M : Type 1} → statement M
 wrap-line-spec =
     tie.close
     (tie.spec
-    sub-fit
-    fit-requires
     glyph-requires
     slice-aggregate-end-line
     end-line-requires
