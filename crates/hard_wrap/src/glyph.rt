@@ -1,18 +1,15 @@
 // The character at the front of a text, a run of plain ones there, and a text's columns: what the `char_indices`
 // and the `width` of `flush_word_hard_wrap` give, over bytes. Each function answers for bytes that are no
 // text too; what it says of characters holds for those that the bytes are the UTF-8 of.
-use characters::columns::Columns;
-use characters::columns::columns_of;
+use characters::columns::char_width;
 use characters::plain::Plain;
 use characters::plain::plain_run;
 use characters::utf8::Decoded;
 use characters::utf8::decode;
-use fields::field::wide;
 ghost use mathlib.Core.Path.{_≡_};
 ghost use mathlib.Core.Bool.{true};
 ghost use Prim.Native.Nat.{_*_, _^_, _≤_, _<_, min};
 ghost use lib.ListN.{length};
-ghost use Rattle.characters.specs.Columns.{cols};
 ghost use Rattle.characters.specs.Plain.{PlainRun};
 ghost use Rattle.hard_wrap.specs.Walk.{Shows, Widths};
 
@@ -20,19 +17,6 @@ ghost use Rattle.hard_wrap.specs.Walk.{Shows, Widths};
 pub struct Shape {
     pub len: usize,
     pub cols: usize,
-}
-
-// `UnicodeWidthChar::width(c).unwrap_or(0)`.
-fn columns_no(c: u32) -> usize
-    ensures { λ r. ⌜ r < 256 ⌝ }
-    ensures { λ r. ⌜ r ≡ cols c ⌝ }
-{
-    let k = columns_of(c);
-    match k {
-        Columns::Control => 0,
-        Columns::Cols(n) => wide(n),
-        Columns::OffList => 0,
-    }
 }
 
 // The lesser number.
@@ -48,13 +32,13 @@ pub fn least(a: usize, b: usize) -> usize
 // The first character.
 pub fn glyph(part: &[u8]) -> Shape
     requires { ⌜ 0 < length (now part) ⌝ }
-    ensures { λ r. ⌜ (0 < r .len) × (r .len ≤ length (now (part .entry))) × (r .cols < 256) ⌝ }
+    ensures { λ r. ⌜ (0 < r .len) × (r .len ≤ length (now (part .entry))) × (r .cols ≤ 2) ⌝ }
     ensures { λ r. ⌜ Shows (now (part .entry)) (r .len) (r .cols) ⌝ }
 {
     let d = decode(part);
     match d {
         Decoded::Char { code, len } => {
-            let cols = columns_no(code);
+            let cols = char_width(code);
             Shape { len, cols }
         }
         Decoded::Bad => Shape { len: 1, cols: 0 },

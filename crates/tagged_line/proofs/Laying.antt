@@ -11,15 +11,13 @@ use lib.ListN.{length, take, drop, getD, length-drop, drop-of-length-le, length-
 use lib.Seq.{sets, drop-drop, length-take-le}
 use borrow.Author.Tests.{eqb-true, eqb-false, eq-eqb, ne-eqb}
 use Rattle.characters.specs.If.{if_then_else_}
-use Rattle.characters.specs.Columns.{columnsOf, widthIn, orZero, widthOf, cols}
+use Rattle.characters.specs.Columns.{cols}
 use Rattle.characters.specs.Columns as chars-columns
 use Rattle.characters.specs.Utf8.{decodeOf, chars}
 use Rattle.characters.specs.Plain.{PlainRun}
-use Rattle.characters.specs.declared.columns.Columns.{Columns}
 use Rattle.characters.specs.declared.utf8.Decoded.the-variants.{Char, Bad}
 use Rattle.characters.proofs.Tests.{and-left, and-right}
 use Rattle.characters.proofs.RoundTrip.{decode-size, chars-nil, chars-step, chars-bad}
-use Rattle.characters.proofs.Tables.{cols-le-two}
 use Rattle.characters.proofs.Runs.{run-chars}
 use Rattle.fields.specs.Field.{field, whole, broken, raws, both, readAll, all}
 use Rattle.fields.specs.Sheet.{Piece, str, fragment, readStr, readPiece, readablePiece, pieceBytes, piecesBytes}
@@ -37,12 +35,6 @@ use Rattle.tagged_line.specs.Held.{Within, Grown, Held, Pushes}
 use Rattle.tagged_line.specs.Pieces.{PiecesOf, AddsFragment, AddsText, AddsPiece, AddsPieces, Copies}
 use Rattle.tagged_line.specs.declared.line.Line.{Line}
 use Rattle.tagged_line.proofs.Holding.{pieces-append}
-
--- ---- the columns of a character
-
--- at most two
-pub at-most-two : (c n : ℕ) → n ≡ cols c → (n ≤ 2) × (n ≡ cols c)
-at-most-two c n e = (omega (arith, e, cols-le-two c), e)
 
 -- ---- the columns of a text, so many before the characters that are left
 

@@ -10,7 +10,7 @@ use fields::store::put_two;
 ghost use mathlib.Core.Path.{_≡_};
 ghost use Prim.Native.Nat.{_+_, _-_, _*_, _^_, _≤_, _<_};
 ghost use lib.ListN.{length};
-ghost use Rattle.borders.specs.BorderHoriz.{drawn, stretch-to};
+ghost use Rattle.borders.specs.BorderHoriz.{drawn};
 ghost use Rattle.tagged_line.specs.Held.{Within, Grown, Opens, Pushes, PushesSpaces, Draws, Pads, newLine};
 
 // Where the writing of a line stands: where its content begins and where it ends so far; the place of the S field that

@@ -8,7 +8,6 @@ use fields::store::put_field;
 ghost use mathlib.Core.Path.{_≡_};
 ghost use Prim.Native.Nat.{_+_, _*_, _^_, _≤_, _<_};
 ghost use lib.ListN.{length};
-ghost use Rattle.fields.specs.Sheet.{piecesBytes};
 ghost use Rattle.tagged_line.specs.Held.{Within, Grown};
 ghost use Rattle.tagged_line.specs.Pieces.{AddsFragment, AddsText, AddsPiece, AddsPieces, Copies};
 

@@ -1,29 +1,13 @@
 // The columns of a text (`UnicodeWidthStr::width`).
-use characters::columns::Columns;
-use characters::columns::columns_of;
+use characters::columns::char_width;
 use characters::plain::ascii_run;
 use characters::plain::plain_run;
 use characters::utf8::Decoded;
 use characters::utf8::decode;
-use fields::field::wide;
 ghost use mathlib.Core.Path.{_≡_};
 ghost use Prim.Native.Nat.{_*_, _^_, _≤_, _<_};
 ghost use lib.ListN.{length};
-ghost use Rattle.characters.specs.Columns.{cols};
 ghost use Rattle.rows.specs.TaggedLine.{text-width};
-
-// The columns of a character, 0 for a control.
-fn char_width(c: u32) -> usize
-    ensures { λ r. ⌜ r ≤ 2 ⌝ }
-    ensures { λ r. ⌜ r ≡ cols c ⌝ }
-{
-    let k = columns_of(c);
-    match k {
-        Columns::Control => 0,
-        Columns::Cols(n) => wide(n),
-        Columns::OffList => 0,
-    }
-}
 
 // The columns of a text, run by run of plain characters and one character after each; 0 for bytes that are no text.
 fn walked_width(text: &[u8]) -> usize

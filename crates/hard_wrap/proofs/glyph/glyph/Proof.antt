@@ -13,8 +13,8 @@ decode-requires c κs = search needs
 enum-known-d : tie.Need-enum-known-d
 enum-known-d c = search needs
 
-columns-no-requires : tie.Need-columns-no-requires
-columns-no-requires c κs = search needs
+char-width-requires : tie.Need-char-width-requires
+char-width-requires c κs = search needs
 
 enum-told : tie.Need-enum-told
 enum-told c = search needs
@@ -24,7 +24,7 @@ returns c =
     let part = c .before .before .before .before .before .before .args .part .now in
     let d = sym (c .before .before .before .before .decode .ensures) ∙ c .before .before .d .given .1 in
     let z = decode-size part _ _ d in
-    ((z .0, z .2, c .columns-no .ensures .0), shown part _ _ _ d (c .columns-no .ensures .1))
+    ((z .0, z .2, c .char-width .ensures .0), shown part _ _ _ d (c .char-width .ensures .1))
 
 returns-2 : tie.Need-returns-2
 returns-2 c =
@@ -34,4 +34,4 @@ returns-2 c =
 pub glyph-spec : {M : Type 1} → statement M
 glyph-spec =
     tie.close
-    (tie.spec decode-requires enum-known-d columns-no-requires enum-told returns returns-2)
+    (tie.spec decode-requires enum-known-d char-width-requires enum-told returns returns-2)
