@@ -15,10 +15,9 @@ use Rattle.characters.proofs.Tests.{by-if}
 use Rattle.fields.specs.Job.{Mode, normal, pre, preWrap}
 use Rattle.fields.specs.declared.job.Setup.{Setup}
 use Rattle.block.specs.Tag.{Tag, tag}
-use Rattle.block.specs.Result.{Result, good, tooNarrow}
+use Rattle.block.specs.Result.{Result, good, tooNarrow, OnGood}
 use Rattle.block.specs.Flat.{Line, char, name, Block, columns, hasText, trimFront, withWord, withWrapped, left, onLine, forceFlushLine, flushLine, flushWordHardWrap, putWord, atWrap, dropBlanks, writeBlank, writeBlanks, startsPre, carryOn, wrapWord, flushWord}
 use Rattle.block.specs.Neat.{Neat}
-use Rattle.block.proofs.Results.{OnGood}
 use Rattle.block.proofs.Neats.{texted, neat-drop, neat-wrap}
 use Rattle.lines.specs.Items.{items, zip}
 use Rattle.lines.specs.Bridge.{num, enc, Valid}
