@@ -13,7 +13,7 @@ use lib.Dec.{ltb, eqb}
 use lib.ListN.{length, take, drop}
 use lib.Seq.{take-append-seam, length-take-le}
 use Rattle.characters.specs.If.{if_then_else_}
-use Rattle.characters.specs.Columns.{cols, widthOf, width}
+use Rattle.characters.specs.Columns.{cols, widthOf, str-width}
 use Rattle.characters.specs.Utf8.{textBytes, chars}
 use Rattle.characters.specs.Whitespace.{isWordbreakPoint}
 use Rattle.characters.specs.Plain.{isPlain, AllPlain, PlainRun}
@@ -88,16 +88,16 @@ module _ (s : Setup) (m : Mode) (main wrap : ℕ) where
       ⊎-elim (λ e. stays-same c v (rw e))
       (⊎-elim (λ le. stays-same c v (rw (le-ltb (s .width) (far v (cols c)) le, and-false (isPre m)))) (λ x. ink-either c v (x .0) (x .1))) st
 
-  stays-first : (c : ℕ) (cs : List ℕ) (v : flat.Walk) → Stays v (width (c ∷ cs)) → Stays v (cols c)
-  unfolding width
+  stays-first : (c : ℕ) (cs : List ℕ) (v : flat.Walk) → Stays v (str-width (c ∷ cs)) → Stays v (cols c)
+  unfolding str-width
   stays-first c cs v st = ⊎-elim (λ e. inl e) (⊎-elim (λ le. inr (inl (omega arith))) (λ x. inr (inr x))) st
 
   columns-one : (l : Line) (c a : ℕ) → columns (l ++ (char c (tag a m) ∷ [])) ≡ columns l + cols c
   unfolding columns
   columns-one l c a = let e : columns (l ++ (char c (tag a m) ∷ [])) ≡ columns l + (cols c + 0) = columns-append l (char c (tag a m) ∷ []) in omega arith
 
-  stays-next : (c : ℕ) (cs : List ℕ) (v : flat.Walk) → Stays v (width (c ∷ cs)) → Stays (pushed v (c ∷ [])) (width cs)
-  unfolding width
+  stays-next : (c : ℕ) (cs : List ℕ) (v : flat.Walk) → Stays v (str-width (c ∷ cs)) → Stays (pushed v (c ∷ [])) (str-width cs)
+  unfolding str-width
   stays-next c cs v st =
       ⊎-elim (λ e. inl e)
       (⊎-elim (λ le. inr (inl (let i = columns-one (v .block .word) c (v .ann) in omega arith))) (λ x. inr (inr x))) st
@@ -111,7 +111,7 @@ module _ (s : Setup) (m : Mode) (main wrap : ℕ) where
       (append-assoc (v .block .word) (char c (tag (v .ann) m) ∷ []) (text (tag (v .ann) m) cs))
 
   -- Plain characters are pushed, one after the other.
-  pub plain-steps : (cs zs : List ℕ) (v : flat.Walk) → AllPlain false cs → Stays v (width cs)
+  pub plain-steps : (cs zs : List ℕ) (v : flat.Walk) → AllPlain false cs → Stays v (str-width cs)
       → steps s m main wrap (cs ++ zs) v ≡ steps s m main wrap zs (pushed v cs)
   plain-steps [] zs v p st = ap (λ (x : flat.Walk). steps s m main wrap zs x) (sym (pushed-none v))
   plain-steps (c ∷ cs) zs v p st =
@@ -121,7 +121,7 @@ module _ (s : Setup) (m : Mode) (main wrap : ℕ) where
       ∙ ap (λ (x : flat.Walk). steps s m main wrap zs x) (pushed-on c cs v)
 
   -- They leave a neat block.
-  pub plain-neat : (cs : List ℕ) (v : flat.Walk) → AllPlain false cs → Stays v (width cs) → NeatWalk v → NeatWalk (pushed v cs)
+  pub plain-neat : (cs : List ℕ) (v : flat.Walk) → AllPlain false cs → Stays v (str-width cs) → NeatWalk v → NeatWalk (pushed v cs)
   plain-neat [] v p st h = subst NeatWalk (sym (pushed-none v)) h
   plain-neat (c ∷ cs) v p st h =
       let one = subst NeatWalk (ink-stays c v (stays-first c cs v st)) (neat-ink s m wrap c (some (cols c)) v (plain-takes-space c (p .0)) h) in
@@ -200,7 +200,7 @@ module _ (frame : Frame) (run : Run) (w : Walk) (bs : List ℕ) (how : Take) (le
       let h = k .keeps in
       let c = r .columns in
       let l = h .line .cols in
-      let stays : Stays s m main wrap v (width (r .cs)) =
+      let stays : Stays s m main wrap v (str-width (r .cs)) =
       ⊎-elim (λ no. inl (not-pre m (λ x. no (i .mode ∙ x)))) (λ in-width. inr (inl (omega (arith, h .count, h .cols)))) (keep .within) in
       let a = keep .ann ∙ k .ann in
       let x = push d₀ base (v .block) (r .cs) (tag (v .ann) m) lb lt out h (plain-scalars false (r .cs) (r .plain)) pushed-bytes c

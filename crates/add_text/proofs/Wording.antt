@@ -10,7 +10,7 @@ use native.Mathlib.Omega.{arith}
 use borrow.Author.Tests.{eq-eqb, ne-eqb, lt-ltb, ltb-true}
 use lib.Dec.{ltb, leb, leb→le}
 use lib.ListN.{length}
-use Rattle.characters.specs.Columns.{columnsOf, widthOf, orZero, cols, width}
+use Rattle.characters.specs.Columns.{columnsOf, widthOf, orZero, cols, str-width}
 use Rattle.characters.specs.Whitespace.{alwaysTakesSpace}
 use Rattle.characters.specs.Utf8.{utf8, textBytes, Scalar}
 use Rattle.characters.proofs.Tests.{by-if, below}
@@ -174,7 +174,7 @@ pushes st part n tag wrapped wb wt wb′ wt′ k used pos e d₀ base b cs t lb 
 -- One character is put so.
 pub pushes-one : (st : State) (part : List ℕ) (n tag : ℕ) (wb wt : List ℕ) (r : State) (wb′ wt′ : List ℕ)
     → PushesChars st part n tag (st .wrapped) wb wt r wb′ wt′ → PushesWord st part n tag wb wt r wb′ wt′
-unfolding textBytes width pushChar
+unfolding textBytes str-width pushChar
 pushes-one st part n tag wb wt r wb′ wt′ f d₀ base b c t lb lt out h s p w ta ann nw =
     keeps-same (ap (λ (x : Bool). withWord (b .word ++ (char c t ∷ [])) (withWrapped x b)) (h .wrapped))
     (f d₀ base b (c ∷ []) t lb lt out h (s, tt) (p ∙ sym (append-nil (utf8 c))) (omega (arith, cols-of c n w)) ta ann nw)

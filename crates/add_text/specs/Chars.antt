@@ -6,7 +6,7 @@ use mathlib.Core.Option.{some}
 use mathlib.Core.List.{List, _++_}
 use Prim.Native.Nat.{ℕ, suc, _+_, _-_, _*_, _%_, _^_, _<_, _≤_}
 use lib.Dec.{eqb}
-use Rattle.characters.specs.Columns.{widthOf, width}
+use Rattle.characters.specs.Columns.{widthOf, str-width}
 use Rattle.characters.specs.Utf8.{utf8, textBytes, Scalar}
 use Rattle.characters.proofs.RoundTrip.{Scalars}
 use Rattle.fields.specs.declared.job.Setup.{Setup}
@@ -95,7 +95,7 @@ pub record Fits (st : State) (m cols : ℕ) : Type 0 where
 abbrev pub PushesChars : State → List ℕ → ℕ → ℕ → Bool → List ℕ → List ℕ → State → List ℕ → List ℕ → Type 0
 PushesChars st part n tag wrapped wb wt r wb′ wt′ =
     (d₀ : List ℕ) (base : ℕ) (b : Block) (cs : List ℕ) (t : Tag) (lb lt out : List ℕ) → Keeps d₀ base b st lb lt wb wt out
-    → Scalars cs → part ≡ textBytes cs → n ≡ width cs → tag ≡ num t → t .ann < 256 → NeatWord (b .word ++ text t cs)
+    → Scalars cs → part ≡ textBytes cs → n ≡ str-width cs → tag ≡ num t → t .ann < 256 → NeatWord (b .word ++ text t cs)
     → Keeps d₀ base (withWord (b .word ++ text t cs) (withWrapped wrapped b)) r lb lt wb′ wt′ out
 
 -- one character

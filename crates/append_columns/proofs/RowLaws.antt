@@ -13,7 +13,7 @@ use lib.Seq.{getD-set-same, getD-set-other, drop-cons}
 use borrow.Author.Tests.{leb-true, leb-false, eq-eqb, ne-eqb}
 use Rattle.characters.specs.If.{if_then_else_}
 use Rattle.characters.specs.Utf8.{firstByte, stepByte, charsFrom, chars, utf8}
-use Rattle.characters.specs.Columns.{columnsOf, widthOf, cols}
+use Rattle.characters.specs.Columns.{columnsOf, widthOf, cols, str-width}
 use Rattle.characters.proofs.Tests.{by-if, lt-or-le, and-left, and-right}
 use Rattle.fields.specs.Field.{whole, raws, fieldAt, Short, readAll, all, part}
 use Rattle.fields.specs.Sheet.{Piece, str, fragment, RenderLine, text, border, readPiece, readablePiece, isSegment, readBorder, readLine, readableLine, readableLines}
@@ -23,7 +23,6 @@ use Rattle.borders.specs.BorderHoriz.{drawn}
 use Rattle.borders.proofs.Drawing.{drawn-most}
 use Rattle.fields.proofs.Back.{Every}
 use Rattle.fields.proofs.Parts.{part-length}
-use Rattle.block.specs.TaggedLine.{str-width}
 use Rattle.rows.specs.declared.Setup.{Setup}
 use Rattle.rows.specs.TaggedLine.{WellFormedPiece, text-width, width, push-str, push-ws, addPieces}
 use Rattle.rows.specs.SubRenderer.{padded, max, edge, rest}

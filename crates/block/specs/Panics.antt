@@ -11,19 +11,19 @@ use mathlib.Core.Path.{_≡_}
 use mathlib.Core.Bool.{Bool, true, false, not, _&&_, _||_}
 use mathlib.Core.Option.{Option, none, some}
 use mathlib.Core.List.{List, [], _∷_}
-use Prim.Native.Nat.{ℕ, zero, suc, _+_, _-_, _%_, _≤_}
+use Prim.Native.Nat.{ℕ, zero, suc, _+_, _-_, _%_, _≤_, min}
 use lib.Dec.{leb, ltb, eqb}
 use lib.ListN.{length, take, drop}
 use Rattle.characters.specs.If.{if_then_else_}
-use Rattle.characters.specs.Columns.{widthOf, cols}
+use Rattle.characters.specs.Columns.{widthOf, cols, str-width}
 use Rattle.characters.specs.Whitespace.{alwaysTakesSpace, isWordbreakPoint}
 use Rattle.characters.specs.Utf8.{chars}
 use Rattle.fields.specs.Job.{Mode, normal, pre, preWrap, JobField, text, fragment, wrong}
 use Rattle.fields.specs.declared.job.Setup.{Setup}
 use Rattle.block.specs.Tag.{Tag, tag, isPre, keepsSpace}
 use Rattle.block.specs.Result.{good, OnGood}
-use Rattle.block.specs.TaggedLine.{TaggedString, Element, Str, FragmentStart, tagged, str-width, TaggedLine, line-new, is-empty, push, push-ws, push-char, line-width, trim-start, trim-end, backwards}
-use Rattle.block.specs.WrappedBlock.{WrappedBlock, set-line, set-spacetag, set-word, set-pre-wrapped, unwrap, flush-line, Walked, walk, Hard, split-at, split-piece, put-rest, at-start, hard-wrap-elements, first-mode, match-spacetag, min, write-one, write-remaining, flush-word, Text, text as at-text, add-char, new}
+use Rattle.block.specs.TaggedLine.{TaggedString, Element, Str, FragmentStart, tagged, TaggedLine, line-new, is-empty, push, push-ws, push-char, line-width, trim-start, trim-end, backwards}
+use Rattle.block.specs.WrappedBlock.{WrappedBlock, set-line, set-spacetag, set-word, set-pre-wrapped, unwrap, flush-line, Walked, walk, Hard, split-at, split-piece, put-rest, at-start, hard-wrap-elements, first-mode, match-spacetag, write-one, write-remaining, flush-word, Text, text as at-text, add-char, new}
 use Rattle.block.specs.Answer.{charsOr, add-field, add-fields}
 
 -- there is something to `unwrap`

@@ -9,7 +9,7 @@ use Prim.Native.Nat.{ℕ, zero, suc, _+_, _-_, _*_, _<_, _≤_}
 use native.Mathlib.Omega.{arith}
 use borrow.Author.Tests.{le-leb, lt-leb}
 use lib.ListN.{length}
-use Rattle.characters.specs.Columns.{columnsOf, widthOf, cols, width}
+use Rattle.characters.specs.Columns.{columnsOf, widthOf, cols, str-width}
 use Rattle.characters.specs.Utf8.{utf8, textBytes}
 use Rattle.fields.specs.declared.job.Setup.{Setup}
 use Rattle.block.specs.Tag.{Tag}
@@ -77,8 +77,8 @@ blank-bytes : 32 ∷ [] ≡ textBytes (0x20 ∷ [])
 unfolding textBytes utf8
 blank-bytes = refl
 
-blank-width : 1 ≡ width (0x20 ∷ [])
-unfolding width cols widthOf columnsOf
+blank-width : 1 ≡ str-width (0x20 ∷ [])
+unfolding str-width cols widthOf columnsOf
 blank-width = refl
 
 tagged-one : (b t : ℕ) → item b t ∷ [] ≡ tagged t (b ∷ [])

@@ -6,7 +6,7 @@ use mathlib.Core.List.{List, [], _∷_, _++_, map, append-nil}
 use Prim.Native.Nat.{ℕ, _+_, _-_, _<_, _≤_}
 use native.Mathlib.Omega.{arith}
 use lib.ListN.{replicate, length-append}
-use Rattle.characters.specs.Columns.{width}
+use Rattle.characters.specs.Columns.{str-width}
 use Rattle.characters.specs.If.{if_then_else_}
 use Rattle.characters.specs.Utf8.{textBytes}
 use Rattle.characters.proofs.RoundTrip.{Scalars}
@@ -97,7 +97,7 @@ closes frame st r d₀ base lb lt out lb′ lt′ out′ b n h e w u v m o =
 -- Text on the line.
 pub puts : (st r : Open) (d₀ : List ℕ) (base : ℕ) (lb lt lb′ lt′ out part : List ℕ) (tag used : ℕ) (b : Block) (t : Tag) (cs : List ℕ)
     → items lb′ lt′ (r .n) ≡ items lb lt (st .n) ++ tagged tag part → r .cols ≡ st .cols + used → r .place ≡ st .place → r .lines ≡ st .lines
-    → Holds d₀ base b st lb lt out → tag ≡ num t → t .ann < 256 → Scalars cs → part ≡ textBytes cs → used ≡ width cs
+    → Holds d₀ base b st lb lt out → tag ≡ num t → t .ann < 256 → Scalars cs → part ≡ textBytes cs → used ≡ str-width cs
     → Holds d₀ base (withLine (b .line ++ text t cs) b) r lb′ lt′ out
 puts st r d₀ base lb lt lb′ lt′ out part tag used b t cs e f g m o ta h v p w =
     record {

@@ -7,7 +7,7 @@ use Prim.Native.Nat.{ℕ, _+_, _-_, _*_, _<_, _≤_, min}
 use native.Mathlib.Omega.{arith}
 use lib.ListN.{length, drop, length-drop}
 use lib.Seq.{drop-drop}
-use Rattle.characters.specs.Columns.{width}
+use Rattle.characters.specs.Columns.{str-width}
 use Rattle.characters.specs.Utf8.{textBytes}
 use Rattle.characters.proofs.RoundTrip.{Scalars}
 use Rattle.fields.specs.declared.job.Setup.{Setup}
@@ -36,7 +36,7 @@ pub record PieceLeft (s : Setup) (d₀ : List ℕ) (base : ℕ) (b : Block) (t :
   pub next : Block
   pub scalars : Scalars q
   pub rest : drop bpos piece ≡ textBytes q
-  pub cols : wpos + width q ≡ width cs
+  pub cols : wpos + str-width q ≡ str-width cs
   pub holds : Holds d₀ base next cur lb lt out
   pub same : (w : Line) → hardWrap s (text t cs ++ w) none b ≡ hardWrap s (text t q ++ w) none next
 
@@ -56,7 +56,7 @@ module _ (s : Setup) (d₀ : List ℕ) (base : ℕ) (b : Block) (t : Tag) (cs pi
           next = x .next;
           scalars = scalars-right (x .p) (x .q) (rw (x .whole) at (g .scalars));
           rest = sym (drop-drop split bpos piece) ∙ text-drop (drop bpos piece) (g .q) (x .p) (x .q) split (g .rest) (x .whole) (x .place);
-          cols = (let m : width (g .q) ≡ width (x .p) + width (x .q) = ap width (x .whole) ∙ width-append (x .p) (x .q) in let y = g .cols in let z = x .cols in omega arith);
+          cols = (let m : str-width (g .q) ≡ str-width (x .p) + str-width (x .q) = ap str-width (x .whole) ∙ width-append (x .p) (x .q) in let y = g .cols in let z = x .cols in omega arith);
           holds = x .holds;
           same = λ w. g .same w ∙ x .same w;
         }
@@ -67,8 +67,8 @@ module _ (s : Setup) (d₀ : List ℕ) (base : ℕ) (b : Block) (t : Tag) (cs pi
 
     -- the rest goes on the open line
     pub piece-rest : (frame : Frame) → s ≡ setup frame → (r : Open) (lb′ lt′ : List ℕ) (used w : ℕ)
-        → w ≡ width cs → used ≡ w - wpos → w ≤ wpos + (frame .width - cur .cols) → cur .cols ≤ frame .width
-        → (used ≡ width (g .q) → Holds d₀ base (withLine (g .next .line ++ text t (g .q)) (g .next)) r lb′ lt′ out)
+        → w ≡ str-width cs → used ≡ w - wpos → w ≤ wpos + (frame .width - cur .cols) → cur .cols ≤ frame .width
+        → (used ≡ str-width (g .q) → Holds d₀ base (withLine (g .next .line ++ text t (g .q)) (g .next)) r lb′ lt′ out)
         → Pieced s d₀ base b t cs r lb′ lt′ out
     piece-rest frame es r lb′ lt′ used w we ue fit ok h =
         let y = g .cols in

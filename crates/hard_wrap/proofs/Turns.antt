@@ -11,7 +11,7 @@ use lib.ListN.{length, take, drop}
 use lib.Seq.{take-append-seam, drop-append-seam}
 use Rattle.characters.specs.If.{if_then_else_}
 use Rattle.characters.specs.Utf8.{utf8, textBytes}
-use Rattle.characters.specs.Columns.{cols, width}
+use Rattle.characters.specs.Columns.{cols, str-width}
 use Rattle.characters.proofs.RoundTrip.{Scalars}
 use Rattle.block.specs.Tag.{Tag}
 use Rattle.block.specs.Result.{Result, tooNarrow}
@@ -41,11 +41,11 @@ some-chars (c ∷ p) at k e h = omega arith
 
 module _ (frame : Frame) (st r : Open) (rest lb lt out lb′ lt′ out′ d₀ : List ℕ) (base : ℕ) (tag : ℕ) (b : Block) (t : Tag) (cs : List ℕ)
     (o : Holds d₀ base b st lb lt out) (ta : tag ≡ num t) (ann : t .ann < 256) (sc : Scalars cs) (e : rest ≡ textBytes cs)
-    (wide : frame .width < st .cols + width cs) (room : st .cols ≤ frame .width) where
+    (wide : frame .width < st .cols + str-width cs) (room : st .cols ≤ frame .width) where
   -- what fits goes on the line
   pub step-on : (at used : ℕ) → Split (frame .width - st .cols) cs at used → used ≤ frame .width - st .cols → 0 < at + st .cols → Ends frame st (take at rest) used tag lb lt out r lb′ lt′ out′
       → Stepped (setup frame) d₀ base b t cs r at used lb′ lt′ out′
-  unfolding width
+  unfolding str-width
   step-on at used s h k x = go (s .q) refl
     where
       pp : Scalars (s .p)
@@ -55,7 +55,7 @@ module _ (frame : Frame) (st r : Open) (rest lb lt out lb′ lt′ out′ d₀ :
       held = x d₀ base b t (s .p) o ta ann pp (text-take rest cs (s .p) (s .q) at e (s .whole) (s .place)) (s .cols)
 
       go : (q : List ℕ) → s .q ≡ q → Stepped (setup frame) d₀ base b t cs r at used lb′ lt′ out′
-      go [] f = absurd (let m : width cs ≡ width (s .p) + 0 = ap width (s .whole ∙ ap (λ (z : List ℕ). s .p ++ z) f) ∙ width-append (s .p) [] in let n = s .cols in omega arith)
+      go [] f = absurd (let m : str-width cs ≡ str-width (s .p) + 0 = ap str-width (s .whole ∙ ap (λ (z : List ℕ). s .p ++ z) f) ∙ width-append (s .p) [] in let n = s .cols in omega arith)
       go (c ∷ q) f =
           let w : cs ≡ s .p ++ (c ∷ q) = s .whole ∙ ap (λ (z : List ℕ). s .p ++ z) f in
           let n : frame .width - st .cols - used < cols c = rw f at (s .stop) in
@@ -79,8 +79,8 @@ module _ (frame : Frame) (st r : Open) (rest lb lt out lb′ lt′ out′ d₀ :
     first q f = s .whole ∙ ap (λ (z : List ℕ). z ++ s .q) (text-none (s .p) (le-of-eq (sym (s .place) ∙ zero-at))) ∙ f
 
     none-used : used ≡ 0
-    unfolding width
-    none-used = s .cols ∙ ap width (text-none (s .p) (le-of-eq (sym (s .place) ∙ zero-at)))
+    unfolding str-width
+    none-used = s .cols ∙ ap str-width (text-none (s .p) (le-of-eq (sym (s .place) ∙ zero-at)))
 
     -- what the flat hard wrap makes of such a character
     abbrev Alone : ℕ → List ℕ → Line → Bool → Result Block
@@ -96,11 +96,11 @@ module _ (frame : Frame) (st r : Open) (rest lb lt out lb′ lt′ out′ d₀ :
 
     -- it goes on the open line, and that is closed
     pub step-over : (len k : ℕ) → Shows rest len k → frame .overflow ≡ true → Ends frame st (take len rest) k tag lb lt out r lb′ lt′ out′ → Stepped (setup frame) d₀ base b t cs r len k lb′ lt′ out′
-    unfolding width textBytes
+    unfolding str-width textBytes
     step-over len k g over x = go (s .q) refl
       where
         go : (q : List ℕ) → s .q ≡ q → Stepped (setup frame) d₀ base b t cs r len k lb′ lt′ out′
-        go [] f = absurd (let m : width cs ≡ 0 = ap width (first [] f) in omega arith)
+        go [] f = absurd (let m : str-width cs ≡ 0 = ap str-width (first [] f) in omega arith)
         go (c ∷ q) f =
             let w : cs ≡ c ∷ q = first (c ∷ q) f in
             let n : frame .width - st .cols - used < cols c = rw f at (s .stop) in
@@ -109,7 +109,7 @@ module _ (frame : Frame) (st r : Open) (rest lb lt out lb′ lt′ out′ d₀ :
             let sw : Scalars (c ∷ q) = rw w at sc in
             let sh = g c (textBytes q) (sw .0) (e ∙ ap textBytes w) in
             let pl : len ≡ length (textBytes (c ∷ [])) = sh .0 ∙ ap length (sym (append-nil (utf8 c))) in
-            let pw : k ≡ width (c ∷ []) = (let z = sh .1 in omega arith) in
+            let pw : k ≡ str-width (c ∷ []) = (let z = sh .1 in omega arith) in
             record {
               p = c ∷ [];
               q = q;
@@ -123,11 +123,11 @@ module _ (frame : Frame) (st r : Open) (rest lb lt out lb′ lt′ out′ d₀ :
 
     -- or the block does not overflow
     pub step-stuck : frame .overflow ≡ false → (z : Line) → hardWrap (setup frame) (text t cs ++ z) none b ≡ tooNarrow
-    unfolding width
+    unfolding str-width
     step-stuck over z = go (s .q) refl
       where
         go : (q : List ℕ) → s .q ≡ q → hardWrap (setup frame) (text t cs ++ z) none b ≡ tooNarrow
-        go [] f = absurd (let m : width cs ≡ 0 = ap width (first [] f) in omega arith)
+        go [] f = absurd (let m : str-width cs ≡ 0 = ap str-width (first [] f) in omega arith)
         go (c ∷ q) f =
             let w : cs ≡ c ∷ q = first (c ∷ q) f in
             let n : frame .width - st .cols - used < cols c = rw f at (s .stop) in

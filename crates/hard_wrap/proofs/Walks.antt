@@ -8,7 +8,7 @@ use native.Mathlib.Omega.{arith}
 use lib.ListN.{length, take, drop, length-append, length-drop}
 use lib.Seq.{drop-drop, drop-append-seam}
 use Rattle.characters.specs.Utf8.{utf8, textBytes}
-use Rattle.characters.specs.Columns.{cols, width}
+use Rattle.characters.specs.Columns.{cols, str-width}
 use Rattle.characters.specs.Plain.{PlainRun}
 use Rattle.characters.proofs.RoundTrip.{Scalars}
 use Rattle.characters.proofs.Runs.{textBytes-append, width-append, plain-scalars, text-front}
@@ -29,12 +29,12 @@ text-none (c ∷ cs) h = absurd (let p = utf8-pos c in omega (arith, length-appe
 module _ (part cs : List ℕ) where
   -- at the start
   pub going-start : part ≡ textBytes cs → Going part cs 0 0
-  unfolding textBytes width
+  unfolding textBytes str-width
   going-start e = record { p = []; q = cs; whole = refl; rest = e; at = refl; cols = refl }
 
   -- what is left, some characters further
   on-more : (p r q : List ℕ) (i used len k : ℕ) → cs ≡ p ++ (r ++ q) → drop i part ≡ textBytes r ++ textBytes q
-      → i ≡ length (textBytes p) → used ≡ width p → len ≡ length (textBytes r) → k ≡ width r → Going part cs (i + len) (used + k)
+      → i ≡ length (textBytes p) → used ≡ str-width p → len ≡ length (textBytes r) → k ≡ str-width r → Going part cs (i + len) (used + k)
   on-more p r q i used len k w d a u e f =
       let l : textBytes (p ++ r) ≡ textBytes p ++ textBytes r = textBytes-append p r in
       record {
@@ -43,13 +43,13 @@ module _ (part cs : List ℕ) where
         whole = w ∙ sym (append-assoc p r q);
         rest = sym (drop-drop len i part) ∙ rw (d, e) (drop-append-seam (textBytes r) (textBytes q));
         at = rw l (omega (arith, length-append (textBytes p) (textBytes r)));
-        cols = (let m : width (p ++ r) ≡ width p + width r = width-append p r in omega arith);
+        cols = (let m : str-width (p ++ r) ≡ str-width p + str-width r = width-append p r in omega arith);
       }
 
   -- what is left, one character further
   on-record : (p : List ℕ) (c : ℕ) (q : List ℕ) (i used len k : ℕ) → cs ≡ p ++ (c ∷ q) → drop i part ≡ utf8 c ++ textBytes q
-      → i ≡ length (textBytes p) → used ≡ width p → len ≡ length (utf8 c) → k ≡ cols c → Going part cs (i + len) (used + k)
-  unfolding textBytes width
+      → i ≡ length (textBytes p) → used ≡ str-width p → len ≡ length (utf8 c) → k ≡ cols c → Going part cs (i + len) (used + k)
+  unfolding textBytes str-width
   on-record p c q i used len k w d a u e f =
       let l : textBytes (c ∷ []) ≡ utf8 c = append-nil (utf8 c) in
       on-more p (c ∷ []) q i used len k w (rw l d) a u (rw l e) (omega arith)
@@ -95,12 +95,12 @@ module _ (part cs : List ℕ) where
             record { p = o .p; q = c ∷ q; whole = w; place = o .at; cols = o .cols; stop = (let y = x .1 in omega arith) }
 
   -- the end of the text
-  pub going-end : (i used left : ℕ) → length part ≤ i → Going part cs i used → (Split left cs i used) × (used ≡ width cs)
+  pub going-end : (i used left : ℕ) → length part ≤ i → Going part cs i used → (Split left cs i used) × (used ≡ str-width cs)
   going-end i used left h o =
       let m : length (textBytes (o .q)) ≡ length part - i = sym (ap length (o .rest)) ∙ length-drop i part in
       let e : o .q ≡ [] = text-none (o .q) (omega arith) in
       let w : cs ≡ o .p ++ [] = o .whole ∙ ap (λ (x : List ℕ). o .p ++ x) e in
-      (record { p = o .p; q = []; whole = w; place = o .at; cols = o .cols; stop = tt }, o .cols ∙ ap width (sym (append-nil (o .p)) ∙ sym w))
+      (record { p = o .p; q = []; whole = w; place = o .at; cols = o .cols; stop = tt }, o .cols ∙ ap str-width (sym (append-nil (o .p)) ∙ sym w))
 
 -- The same place, by another name.
 pub split-same : {left at at′ used : ℕ} {cs : List ℕ} → at ≡ at′ → Split left cs at′ used → Split left cs at used

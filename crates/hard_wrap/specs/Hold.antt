@@ -6,7 +6,7 @@ use mathlib.Core.List.{List, _++_, map}
 use Prim.Native.Nat.{ℕ, _+_, _-_, _*_, _^_, _<_, _≤_, min}
 use lib.ListN.{length, replicate}
 use lib.Seq.{sets}
-use Rattle.characters.specs.Columns.{width}
+use Rattle.characters.specs.Columns.{str-width}
 use Rattle.characters.specs.If.{if_then_else_}
 use Rattle.characters.specs.Utf8.{textBytes}
 use Rattle.characters.proofs.RoundTrip.{Scalars}
@@ -101,7 +101,7 @@ padded frame st l = if frame .pad then l ++ replicate (frame .width - st .cols) 
 -- text goes on the line
 abbrev pub Puts : Open → List ℕ → ℕ → ℕ → List ℕ → List ℕ → Open → List ℕ → List ℕ → Type 0
 Puts st part used tag lb lt r lb′ lt′ =
-    (d₀ : List ℕ) (base : ℕ) (b : Block) (t : Tag) (cs out : List ℕ) → Holds d₀ base b st lb lt out → tag ≡ num t → t .ann < 256 → Scalars cs → part ≡ textBytes cs → used ≡ width cs
+    (d₀ : List ℕ) (base : ℕ) (b : Block) (t : Tag) (cs out : List ℕ) → Holds d₀ base b st lb lt out → tag ≡ num t → t .ann < 256 → Scalars cs → part ≡ textBytes cs → used ≡ str-width cs
     → Holds d₀ base (withLine (b .line ++ text t cs) b) r lb′ lt′ out
 
 -- a line is closed
@@ -112,7 +112,7 @@ Closes frame st lb lt out r lb′ lt′ out′ =
 -- a part of a piece goes on the line, and that is closed
 abbrev pub Ends : Frame → Open → List ℕ → ℕ → ℕ → List ℕ → List ℕ → List ℕ → Open → List ℕ → List ℕ → List ℕ → Type 0
 Ends frame st part used tag lb lt out r lb′ lt′ out′ =
-    (d₀ : List ℕ) (base : ℕ) (b : Block) (t : Tag) (cs : List ℕ) → Holds d₀ base b st lb lt out → tag ≡ num t → t .ann < 256 → Scalars cs → part ≡ textBytes cs → used ≡ width cs
+    (d₀ : List ℕ) (base : ℕ) (b : Block) (t : Tag) (cs : List ℕ) → Holds d₀ base b st lb lt out → tag ≡ num t → t .ann < 256 → Scalars cs → part ≡ textBytes cs → used ≡ str-width cs
     → Holds d₀ base (forceFlushLine (setup frame) (withLine (b .line ++ text t cs) b)) r lb′ lt′ out′
 
 -- one line of a piece that does not fit
@@ -122,7 +122,7 @@ pub record Stepped (s : Setup) (d₀ : List ℕ) (base : ℕ) (b : Block) (t : T
   pub next : Block
   pub whole : cs ≡ p ++ q
   pub place : split ≡ length (textBytes p)
-  pub cols : used ≡ width p
+  pub cols : used ≡ str-width p
   pub holds : Holds d₀ base next r lb lt out
   pub same : (w : Line) → hardWrap s (text t cs ++ w) none b ≡ hardWrap s (text t q ++ w) none next
 
@@ -134,7 +134,7 @@ StepIs s d₀ base b t cs (On r split used) lb lt out = Stepped s d₀ base b t 
 -- the step that `wrap_line` makes at the place where the walk over the characters stopped, where the rest of the piece does not fit
 abbrev pub Steps : Frame → Open → List ℕ → ℕ → ℕ → ℕ → List ℕ → List ℕ → List ℕ → Step → List ℕ → List ℕ → List ℕ → Type 0
 Steps frame st rest split used tag lb lt out r lb′ lt′ out′ =
-    (d₀ : List ℕ) (base : ℕ) (b : Block) (t : Tag) (cs : List ℕ) → Holds d₀ base b st lb lt out → tag ≡ num t → t .ann < 256 → Scalars cs → rest ≡ textBytes cs → frame .width < st .cols + width cs
+    (d₀ : List ℕ) (base : ℕ) (b : Block) (t : Tag) (cs : List ℕ) → Holds d₀ base b st lb lt out → tag ≡ num t → t .ann < 256 → Scalars cs → rest ≡ textBytes cs → frame .width < st .cols + str-width cs
     → Split (frame .width - st .cols) cs split used → StepIs (setup frame) d₀ base b t cs r lb′ lt′ out′
 
 -- a whole piece

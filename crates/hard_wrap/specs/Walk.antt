@@ -5,7 +5,7 @@ use mathlib.Core.List.{List, _++_}
 use Prim.Native.Nat.{ℕ, _-_}
 use lib.ListN.{length, drop}
 use Rattle.characters.specs.Utf8.{Scalar, utf8, textBytes}
-use Rattle.characters.specs.Columns.{cols, width}
+use Rattle.characters.specs.Columns.{cols, str-width}
 use Rattle.characters.proofs.RoundTrip.{Scalars}
 use Rattle.lines.specs.Bridge.{Stops}
 
@@ -20,7 +20,7 @@ pub record Going (part cs : List ℕ) (i used : ℕ) : Type 0 where
   pub whole : cs ≡ p ++ q
   pub rest : drop i part ≡ textBytes q
   pub at : i ≡ length (textBytes p)
-  pub cols : used ≡ width p
+  pub cols : used ≡ str-width p
 
 -- a text in two: what fits so many columns, and what starts with a character that does not
 pub record Split (left : ℕ) (cs : List ℕ) (at used : ℕ) : Type 0 where
@@ -28,9 +28,9 @@ pub record Split (left : ℕ) (cs : List ℕ) (at used : ℕ) : Type 0 where
   pub q : List ℕ
   pub whole : cs ≡ p ++ q
   pub place : at ≡ length (textBytes p)
-  pub cols : used ≡ width p
+  pub cols : used ≡ str-width p
   pub stop : Stops (left - used) q
 
 -- what `width_of` finds
 abbrev pub Widths : List ℕ → ℕ → Type 0
-Widths part r = (cs : List ℕ) → Scalars cs → part ≡ textBytes cs → r ≡ width cs
+Widths part r = (cs : List ℕ) → Scalars cs → part ≡ textBytes cs → r ≡ str-width cs

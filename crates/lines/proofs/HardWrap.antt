@@ -10,7 +10,7 @@ use borrow.Author.Tests.{le-leb, lt-leb, eq-eqb, ne-eqb}
 use lib.Dec.{eqb}
 use lib.ListN.{length}
 use Rattle.characters.specs.If.{if_then_else_}
-use Rattle.characters.specs.Columns.{cols, width}
+use Rattle.characters.specs.Columns.{cols, str-width}
 use Rattle.fields.specs.Job.{Mode, normal, pre, preWrap}
 use Rattle.fields.specs.declared.job.Setup.{Setup}
 use Rattle.block.specs.Tag.{Tag, sameTag, sameMode}
@@ -21,8 +21,8 @@ use Rattle.block.proofs.Width.{columns-append}
 use Rattle.block.proofs.Group.{same-self}
 
 -- The columns of a text of one tag are its width.
-pub columns-text : (t : Tag) (cs : List ℕ) → columns (text t cs) ≡ width cs
-unfolding columns width
+pub columns-text : (t : Tag) (cs : List ℕ) → columns (text t cs) ≡ str-width cs
+unfolding columns str-width
 columns-text t [] = refl
 columns-text t (c ∷ cs) = ap (λ (n : ℕ). cols c + n) (columns-text t cs)
 
@@ -71,9 +71,9 @@ module _ (s : Setup) where
   line-left b l = refl
 
   -- a stretch that fits goes on the line
-  pub fits-all : (t : Tag) (cs : List ℕ) (w : Line) (last : Option Tag) (b : Block) (l : Line) → columns l + width cs ≤ s .width
+  pub fits-all : (t : Tag) (cs : List ℕ) (w : Line) (last : Option Tag) (b : Block) (l : Line) → columns l + str-width cs ≤ s .width
       → hardWrap s (text t cs ++ w) last (withLine l b) ≡ hardWrap s w (after t cs last) (withLine (l ++ text t cs) b)
-  unfolding width columns
+  unfolding str-width columns
   fits-all t [] w last b l h = rw append-nil
   fits-all t (c ∷ cs) w last b l h =
       let m : columns (l ++ (char c t ∷ [])) ≡ columns l + (cols c + 0) = columns-append l (char c t ∷ []) in
@@ -99,13 +99,13 @@ module _ (s : Setup) where
       flushed-left = left-flushed s b
 
   -- a stretch that fits, and then a character that does not, on a line with text
-  pub splits : (t : Tag) (p : List ℕ) (c : ℕ) (q : List ℕ) (w : Line) (b : Block) (l : Line) → columns l + width p ≤ s .width → s .width < columns l + width p + cols c → 0 < length p + columns l
+  pub splits : (t : Tag) (p : List ℕ) (c : ℕ) (q : List ℕ) (w : Line) (b : Block) (l : Line) → columns l + str-width p ≤ s .width → s .width < columns l + str-width p + cols c → 0 < length p + columns l
       → hardWrap s (text t (p ++ c ∷ q) ++ w) none (withLine l b) ≡ hardWrap s (text t (c ∷ q) ++ w) none (forceFlushLine s (withLine (l ++ text t p) b))
   splits t p c q w b l h k m =
       ap (λ (x : Line). hardWrap s x none (withLine l b)) (ap (λ (x : Line). x ++ w) (text-append t p (c ∷ q)) ∙ append-assoc (text t p) (text t (c ∷ q)) w)
       ∙ fits-all t p (text t (c ∷ q) ++ w) none b l h
       ∙ flush-first c t (text t q ++ w) (after t p none) (withLine (l ++ text t p) b)
-      (let e : columns (l ++ text t p) ≡ columns l + width p = columns-append l (text t p) ∙ ap (λ (n : ℕ). columns l + n) (columns-text t p) in rw (line-left b (l ++ text t p)) (omega arith))
+      (let e : columns (l ++ text t p) ≡ columns l + str-width p = columns-append l (text t p) ∙ ap (λ (n : ℕ). columns l + n) (columns-text t p) in rw (line-left b (l ++ text t p)) (omega arith))
       (no-first t p l m)
 
   -- a character that no line takes
@@ -128,7 +128,7 @@ module _ (s : Setup) where
   cut-last t (char c u ∷ w) b h = rw h
 
   -- a piece that fits
-  pub piece-fits : (t : Tag) (cs : List ℕ) (w : Line) (b : Block) (l : Line) → Cut t w → columns l + width cs ≤ s .width
+  pub piece-fits : (t : Tag) (cs : List ℕ) (w : Line) (b : Block) (l : Line) → Cut t w → columns l + str-width cs ≤ s .width
       → hardWrap s (text t cs ++ w) none (withLine l b) ≡ hardWrap s w none (withLine (l ++ text t cs) b)
   piece-fits t [] w b l k h = fits-all t [] w none b l h
   piece-fits t (c ∷ cs) w b l k h = fits-all t (c ∷ cs) w none b l h ∙ cut-last t w (withLine (l ++ text t (c ∷ cs)) b) k

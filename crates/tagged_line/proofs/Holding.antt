@@ -10,11 +10,11 @@ use lib.Dec.{eqb}
 use lib.ListN.{length, set, replicate, length-append, length-replicate}
 use lib.Seq.{sets, set-comm, set-set}
 use borrow.Author.Tests.{eq-eqb, ne-eqb}
+use Rattle.characters.specs.Columns.{str-width}
 use Rattle.fields.specs.Field.{two, head, field}
 use Rattle.fields.specs.Sheet.{Piece, str, pieceBytes, piecesBytes}
 use Rattle.fields.specs.Store.{Wrote}
 use Rattle.fields.proofs.Sets.{sets-append, sets-before, wrote-then}
-use Rattle.block.specs.TaggedLine.{str-width}
 use Rattle.borders.specs.BorderSegHoriz.{Horiz}
 use Rattle.borders.specs.BorderHoriz.{stretch-to, glyph, drawn}
 use Rattle.borders.proofs.Drawing.{glyph-cols, drawn-append, drawn-chars}

@@ -11,14 +11,13 @@ use lib.ListN.{length, take, drop, getD, length-drop, drop-of-length-le, length-
 use lib.Seq.{sets, drop-drop, length-take-le}
 use borrow.Author.Tests.{eqb-true, eqb-false, eq-eqb, ne-eqb}
 use Rattle.characters.specs.If.{if_then_else_}
-use Rattle.characters.specs.Columns.{cols}
-use Rattle.characters.specs.Columns as chars-columns
+use Rattle.characters.specs.Columns.{cols, str-width}
 use Rattle.characters.specs.Utf8.{decodeOf, chars}
 use Rattle.characters.specs.Plain.{PlainRun}
 use Rattle.characters.specs.declared.utf8.Decoded.the-variants.{Char, Bad}
 use Rattle.characters.proofs.Tests.{and-left, and-right}
 use Rattle.characters.proofs.RoundTrip.{decode-size, chars-nil, chars-step, chars-bad}
-use Rattle.characters.proofs.Runs.{run-chars}
+use Rattle.characters.proofs.Runs.{width-append, run-chars}
 use Rattle.fields.specs.Field.{field, whole, broken, raws, both, readAll, all}
 use Rattle.fields.specs.Sheet.{Piece, str, fragment, readStr, readPiece, readablePiece, pieceBytes, piecesBytes}
 use Rattle.fields.specs.Store.{Wrote}
@@ -27,7 +26,6 @@ use Rattle.fields.proofs.Readings.{read-first}
 use Rattle.fields.proofs.Fields.{FieldIs}
 use Rattle.fields.proofs.Back.{every-append}
 use Rattle.fields.proofs.Sets.{sets-append, wrote-then, wrote-none}
-use Rattle.block.specs.TaggedLine.{str-width}
 use Rattle.block.specs.Demands.{WellFormed}
 use Rattle.rows.specs.TaggedLine.{WellFormedPiece, widthOr, text-width, piece-width, width, join, push, addPiece, addPieces}
 use Rattle.rows.proofs.Lines.{line-width-append, readable-formed}
@@ -52,17 +50,11 @@ unfolding str-width
 after-cons n c none = refl
 after-cons n c (some cs) = omega arith
 
--- the columns of characters and then of others
-widths : (cs l : List ℕ) → str-width (cs ++ l) ≡ chars-columns.width cs + str-width l
-unfolding str-width chars-columns.width
-widths [] l = omega arith
-widths (c ∷ cs) l = omega (arith, widths cs l)
-
 -- characters that are passed over add their columns
 after-run : (n : ℕ) (cs : List ℕ) (o : Option (List ℕ))
-    → after n (Option·map (λ (l : List ℕ). cs ++ l) o) ≡ after (n + chars-columns.width cs) o
+    → after n (Option·map (λ (l : List ℕ). cs ++ l) o) ≡ after (n + str-width cs) o
 after-run n cs none = refl
-after-run n cs (some l) = omega (arith, widths cs l)
+after-run n cs (some l) = omega (arith, width-append cs l)
 
 -- up to a place of the text s, n columns
 pub record Counted (s : List ℕ) (at n : ℕ) : Type 0 where
@@ -124,7 +116,7 @@ module _ (s : List ℕ) (at n : ℕ) (w : Counted s at n) where
 -- A text that is one run has the run's columns.
 pub run-width : {s : List ℕ} {n : ℕ} → PlainRun true s n n → n ≡ length s → n ≡ text-width s
 run-width {s} {n} r e =
-    let sum : 0 + chars-columns.width (r .cs) ≡ n = omega (arith, r .columns) in
+    let sum : 0 + str-width (r .cs) ≡ n = omega (arith, r .columns) in
     count-end s n n
     (record {
       inside = omega arith;

@@ -10,7 +10,7 @@ use native.Mathlib.Omega.{arith}
 use borrow.Author.Tests.{ltb-true, ltb-false}
 use borrow.Author.Needs.{needs, fits-under}
 use lib.ListN.{length, take, drop}
-use Rattle.characters.specs.Columns.{width}
+use Rattle.characters.specs.Columns.{str-width}
 use Rattle.characters.specs.Utf8.{textBytes}
 use Rattle.characters.proofs.RoundTrip.{Scalars}
 use Rattle.hard_wrap.specs.Hold.{setup, Room, Moved}
@@ -92,7 +92,7 @@ abbrev left : tie.Then1 Inv-walk μ-walk Inv-loop μ-loop → ℕ
 left c = start c .args .frame .width - head c .loop .cur .cols
 
 -- the rest does not fit
-wide : (c : tie.Then1 Inv-walk μ-walk Inv-loop μ-loop) (cs : List ℕ) → Scalars cs → start c .args .piece .now ≡ textBytes cs → (n : ℕ) → head c .loop .wpos + n ≡ width cs
+wide : (c : tie.Then1 Inv-walk μ-walk Inv-loop μ-loop) (cs : List ℕ) → Scalars cs → start c .args .piece .now ≡ textBytes cs → (n : ℕ) → head c .loop .wpos + n ≡ str-width cs
     → start c .args .frame .width < head c .loop .cur .cols + n
 wide c cs sc e n f =
     let w = head c .before .width-of in
@@ -284,7 +284,7 @@ loop-again c =
           let g = l .inv .going d₀ base b t cs o ta ann sc e in
           let f = part-rest (a .piece .now) (l .bpos) ∙ g .rest in
           let x = line c .wrap-line .ensures .1 d₀ base (g .next) t (g .q) (g .holds) ta ann (g .scalars) f
-          (wide d cs sc e (width (g .q)) (g .cols)) (stopped (stop (line c)) (g .q) (g .scalars) f) in
+          (wide d cs sc e (str-width (g .q)) (g .cols)) (stopped (stop (line c)) (g .q) (g .scalars) f) in
           piece-turn (setup (a .frame)) d₀ base b t cs (a .piece .now) (l .cur) (l .wpos) (l .bpos) _ _ _ g (c .before .step .given .1) _ _ _ x;
     }
 
@@ -314,7 +314,7 @@ returns c =
           let g = l .inv .going d₀ base b t cs o ta ann sc e in
           let f = part-rest (a .piece .now) (l .bpos) ∙ g .rest in
           let x = stuck c .wrap-line .ensures .1 d₀ base (g .next) t (g .q) (g .holds) ta ann (g .scalars) f
-          (wide d cs sc e (width (g .q)) (g .cols)) (stopped (stop (stuck c)) (g .q) (g .scalars) f) in
+          (wide d cs sc e (str-width (g .q)) (g .cols)) (stopped (stop (stuck c)) (g .q) (g .scalars) f) in
           λ v cut. piece-stuck (setup (a .frame)) d₀ base b t cs (a .piece .now) (l .cur) (l .wpos) (l .bpos) _ _ _ g (c .enum-told .given .1) _ _ _ x v,
     )
 
