@@ -16,11 +16,12 @@ use Rattle.fields.specs.Field.{head, field, all}
 use Rattle.fields.specs.Sheet.{Piece, RenderLine, text, border, piecesBytes, content, letter, linesBytes, sheetBytes}
 use Rattle.fields.specs.Store.{Wrote}
 use Rattle.fields.specs.Answer.{Answer, refused, inStore, give, Stands}
+use Rattle.fields.specs.Widths.{width}
 use Rattle.fields.proofs.Sets.{sets-append, wrote-then, wrote-before}
 use Rattle.borders.specs.BorderHoriz.{stretch-to, to-string, drawn}
 use Rattle.borders.proofs.Drawing.{drawn-string}
 use Rattle.rows.specs.declared.Setup.{Setup}
-use Rattle.rows.specs.TaggedLine.{width, join, push-str, pad-to}
+use Rattle.rows.specs.TaggedLine.{join, push-str, pad-to}
 use Rattle.rows.specs.SubRenderer.{padded}
 use Rattle.rows.specs.Answer.{fits, finished}
 use Rattle.tagged_line.specs.Held.{Held, Within, Grown, newLine, Pads, Draws}

@@ -17,6 +17,7 @@ use Rattle.characters.specs.Columns.{columnsOf, widthOf, cols, str-width}
 use Rattle.characters.proofs.Tests.{by-if, lt-or-le, and-left, and-right}
 use Rattle.fields.specs.Field.{whole, raws, fieldAt, Short, readAll, all, part}
 use Rattle.fields.specs.Sheet.{Piece, str, fragment, RenderLine, text, border, readPiece, readablePiece, isSegment, readBorder, readLine, readableLine, readableLines}
+use Rattle.fields.specs.Widths.{text-width, width}
 use Rattle.fields.specs.declared.field.Field.{Field}
 use Rattle.fields.specs.declared.field.Field.the-variants.{At, Broken, End}
 use Rattle.borders.specs.BorderHoriz.{drawn}
@@ -24,7 +25,7 @@ use Rattle.borders.proofs.Drawing.{drawn-most}
 use Rattle.fields.proofs.Back.{Every}
 use Rattle.fields.proofs.Parts.{part-length}
 use Rattle.rows.specs.declared.Setup.{Setup}
-use Rattle.rows.specs.TaggedLine.{WellFormedPiece, text-width, width, push-str, push-ws, addPieces}
+use Rattle.rows.specs.TaggedLine.{WellFormedPiece, push-str, push-ws, addPieces}
 use Rattle.rows.specs.SubRenderer.{padded, max, edge, rest}
 use Rattle.rows.specs.Columns.{Column, column, addColumn, columnLine, nextColumn, columnsHeight, columnLines}
 use Rattle.rows.proofs.Lines.{readable-formed, consume-pieces, pieces-width, spaces-formed, spaces-width}

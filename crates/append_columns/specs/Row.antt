@@ -7,8 +7,9 @@ use Prim.Native.Nat.{ℕ, _-_, _≤_, _<_}
 use lib.ListN.{length, replicate, getD}
 use Rattle.fields.specs.Field.{all}
 use Rattle.fields.specs.Sheet.{Piece, RenderLine, text, readablePiece}
+use Rattle.fields.specs.Widths.{width}
 use Rattle.rows.specs.declared.Setup.{Setup}
-use Rattle.rows.specs.TaggedLine.{width, push-str, consume}
+use Rattle.rows.specs.TaggedLine.{push-str, consume}
 use Rattle.rows.specs.SubRenderer.{padded, edge, rest}
 use Rattle.rows.specs.Columns.{Column, addColumn, columnLine, nextColumn, columnsHeight, columnLines}
 use Rattle.tagged_line.specs.Held.{Held}

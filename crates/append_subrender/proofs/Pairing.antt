@@ -13,10 +13,10 @@ use Rattle.characters.proofs.Tests.{and-left, and-right}
 use Rattle.fields.specs.Field.{whole, broken, raws, readAll, all}
 use Rattle.fields.specs.Text.{readableText}
 use Rattle.fields.specs.Sheet.{RenderLine, border, Cell, readPrefix}
+use Rattle.fields.specs.Widths.{text-width}
 use Rattle.fields.proofs.Fields.{FieldIs}
 use Rattle.borders.specs.BorderSegHoriz.{Horiz}
 use Rattle.borders.specs.BorderHoriz.{new-type}
-use Rattle.rows.specs.TaggedLine.{text-width}
 use Rattle.rows.specs.SubRenderer.{padded, extend-lines, withPrefix, later, prefixed, append-subrender, ifDrawn, between, appendEach, append-vert-row}
 use Rattle.rows.specs.declared.Setup.{Setup}
 use Rattle.rows.proofs.Lines.{extend-map, readable-formed}

@@ -10,10 +10,10 @@ use Rattle.characters.specs.If.{if_then_else_}
 use Rattle.fields.specs.Field.{whole, raws, readAll, all}
 use Rattle.fields.specs.Text.{readableText}
 use Rattle.fields.specs.Sheet.{RenderLine, border, readLine, readableLine, readPrefix, Cell, readCell, readableCell}
+use Rattle.fields.specs.Widths.{text-width}
 use Rattle.borders.specs.BorderHoriz.{new-type}
 use Rattle.rows.specs.declared.Setup.{Setup}
 use Rattle.block.specs.Demands.{WellFormed}
-use Rattle.rows.specs.TaggedLine.{text-width}
 use Rattle.rows.specs.SubRenderer.{padded, withPrefix, later, prefixed, between}
 use Rattle.add_line.specs.Emitted.{Emitted}
 use Rattle.add_line.specs.declared.lines.Lines.{Lines}

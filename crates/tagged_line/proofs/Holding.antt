@@ -14,12 +14,13 @@ use Rattle.characters.specs.Columns.{str-width}
 use Rattle.fields.specs.Field.{two, head, field}
 use Rattle.fields.specs.Sheet.{Piece, str, pieceBytes, piecesBytes}
 use Rattle.fields.specs.Store.{Wrote}
+use Rattle.fields.specs.Widths.{text-width, width}
 use Rattle.fields.proofs.Sets.{sets-append, sets-before, wrote-then}
 use Rattle.borders.specs.BorderSegHoriz.{Horiz}
 use Rattle.borders.specs.BorderHoriz.{stretch-to, glyph, drawn}
 use Rattle.borders.proofs.Drawing.{glyph-cols, drawn-append, drawn-chars}
 use Rattle.block.specs.Demands.{WellFormed}
-use Rattle.rows.specs.TaggedLine.{text-width, width, join, push-str, push-ws, pad-to}
+use Rattle.rows.specs.TaggedLine.{join, push-str, push-ws, pad-to}
 use Rattle.rows.proofs.Lines.{text-width-nil, push-width, push-formed, spaces-formed, spaces-width}
 use Rattle.tagged_line.specs.Held.{Grown, Held, Opens, Pushes, PushesSpaces, Pads, Draws}
 use Rattle.tagged_line.specs.declared.line.Line.{Line}

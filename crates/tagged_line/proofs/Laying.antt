@@ -21,13 +21,14 @@ use Rattle.characters.proofs.Runs.{width-append, run-chars}
 use Rattle.fields.specs.Field.{field, whole, broken, raws, both, readAll, all}
 use Rattle.fields.specs.Sheet.{Piece, str, fragment, readStr, readPiece, readablePiece, pieceBytes, piecesBytes}
 use Rattle.fields.specs.Store.{Wrote}
+use Rattle.fields.specs.Widths.{widthOr, text-width, piece-width, width}
 use Rattle.fields.proofs.Texts.{rest}
 use Rattle.fields.proofs.Readings.{read-first}
 use Rattle.fields.proofs.Fields.{FieldIs}
 use Rattle.fields.proofs.Back.{every-append}
 use Rattle.fields.proofs.Sets.{sets-append, wrote-then, wrote-none}
 use Rattle.block.specs.Demands.{WellFormed}
-use Rattle.rows.specs.TaggedLine.{WellFormedPiece, widthOr, text-width, piece-width, width, join, push, addPiece, addPieces}
+use Rattle.rows.specs.TaggedLine.{WellFormedPiece, join, push, addPiece, addPieces}
 use Rattle.rows.proofs.Lines.{line-width-append, readable-formed}
 use Rattle.tagged_line.specs.Held.{Within, Grown, Held, Pushes}
 use Rattle.tagged_line.specs.Pieces.{PiecesOf, AddsFragment, AddsText, AddsPiece, AddsPieces, Copies}

@@ -7,10 +7,11 @@ use Prim.Native.Nat.{ℕ, _+_, _-_, _^_, _≤_, _<_}
 use lib.ListN.{length}
 use lib.Seq.{sets}
 use Rattle.fields.specs.Sheet.{Piece, str, piecesBytes}
+use Rattle.fields.specs.Widths.{text-width, width}
 use Rattle.fields.proofs.Back.{Every}
 use Rattle.borders.specs.BorderHoriz.{drawn, stretch-to}
 use Rattle.block.specs.Demands.{WellFormed}
-use Rattle.rows.specs.TaggedLine.{WellFormedPiece, text-width, width, join, push-str, push-ws, pad-to}
+use Rattle.rows.specs.TaggedLine.{WellFormedPiece, join, push-str, push-ws, pad-to}
 use Rattle.tagged_line.specs.declared.line.Line.{Line}
 
 -- ---- numbers
