@@ -23,7 +23,7 @@ use Rattle.fields.specs.declared.job.Setup.{Setup}
 use Rattle.block.specs.Tag.{Tag, tag, isPre, keepsSpace}
 use Rattle.block.specs.Result.{good, OnGood}
 use Rattle.block.specs.TaggedLine.{TaggedString, Element, Str, FragmentStart, tagged, TaggedLine, line-new, is-empty, push, push-ws, push-char, line-width, trim-start, trim-end, backwards}
-use Rattle.block.specs.WrappedBlock.{WrappedBlock, set-line, set-spacetag, set-word, set-pre-wrapped, unwrap, flush-line, Walked, walk, Hard, split-at, split-piece, put-rest, at-start, hard-wrap-elements, first-mode, match-spacetag, write-one, write-remaining, flush-word, Text, text as at-text, add-char, new}
+use Rattle.block.specs.WrappedBlock.{WrappedBlock, set-line, set-spacetag, set-word, set-pre-wrapped, unwrap, flush-line, Walked, walk, Hard, split-at, split-piece, put-rest, at-start, first-mode, match-spacetag, write-one, write-remaining, flush-word, Text, text as at-text, add-char, new}
 use Rattle.block.specs.Answer.{charsOr, add-field, add-fields}
 
 -- there is something to `unwrap`
