@@ -5,7 +5,7 @@ use crate::state::no_blanks;
 use crate::trim::trimmed_end;
 use hard_wrap::line::Frame;
 use hard_wrap::line::Open;
-use hard_wrap::wrap::less;
+use hard_wrap::numbers::less;
 use lines::buffer::push_blanks;
 ghost use mathlib.Core.Path.{_≡_};
 ghost use Prim.Native.Nat.{_/_, _<_, _≤_};

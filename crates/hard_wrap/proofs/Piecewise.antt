@@ -21,8 +21,8 @@ use Rattle.lines.proofs.HardWrap.{piece-fits}
 use Rattle.hard_wrap.specs.Hold.{setup, Holds, Moved, Forward, StepIs, Pieced}
 use Rattle.hard_wrap.specs.declared.line.Frame.{Frame}
 use Rattle.hard_wrap.specs.declared.line.Open.{Open}
-use Rattle.hard_wrap.specs.declared.wrap.Step.{Step}
-use Rattle.hard_wrap.specs.declared.wrap.Step.the-variants.{On, Stuck}
+use Rattle.hard_wrap.specs.declared.piece.Step.{Step}
+use Rattle.hard_wrap.specs.declared.piece.Step.the-variants.{On, Stuck}
 use Rattle.hard_wrap.proofs.Turns.{text-drop}
 use Rattle.hard_wrap.proofs.Walks.{text-none}
 

@@ -20,8 +20,8 @@ use Rattle.lines.specs.Bridge.{num, enc, Valid, text, Cut}
 use Rattle.hard_wrap.specs.Walk.{Split}
 use Rattle.hard_wrap.specs.declared.line.Frame.{Frame}
 use Rattle.hard_wrap.specs.declared.line.Open.{Open}
-use Rattle.hard_wrap.specs.declared.wrap.Step.{Step}
-use Rattle.hard_wrap.specs.declared.wrap.Step.the-variants.{On, Stuck}
+use Rattle.hard_wrap.specs.declared.piece.Step.{Step}
+use Rattle.hard_wrap.specs.declared.piece.Step.the-variants.{On, Stuck}
 use Rattle.hard_wrap.specs.declared.wrap.Wrapped.{Wrapped}
 use Rattle.hard_wrap.specs.declared.wrap.Wrapped.the-variants.{Done, Narrow}
 

@@ -27,7 +27,7 @@ pub fn flush_line(frame: Frame, st: Open, lb: &mut [u8], lt: &mut [u32], out: &m
 }
 
 // One blank more, and the line is closed where it is full.
-pub fn write_blank(
+fn write_blank(
     frame: Frame,
     st: Open,
     lb: &mut [u8],

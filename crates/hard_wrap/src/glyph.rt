@@ -1,14 +1,14 @@
 // The character at the front of a text, a run of plain ones there, and a text's columns: what the `char_indices`
 // and the `width` of `flush_word_hard_wrap` give, over bytes. Each function answers for bytes that are no
 // text too; what it says of characters holds for those that the bytes are the UTF-8 of.
+use crate::numbers::least;
 use characters::columns::char_width;
 use characters::plain::Plain;
 use characters::plain::plain_run;
 use characters::utf8::Decoded;
 use characters::utf8::decode;
-ghost use mathlib.Core.Path.{_≡_};
 ghost use mathlib.Core.Bool.{true};
-ghost use Prim.Native.Nat.{_*_, _^_, _≤_, _<_, min};
+ghost use Prim.Native.Nat.{_*_, _^_, _≤_, _<_};
 ghost use lib.ListN.{length};
 ghost use Rattle.characters.specs.Plain.{PlainRun};
 ghost use Rattle.hard_wrap.specs.Walk.{Shows, Widths};
@@ -17,16 +17,6 @@ ghost use Rattle.hard_wrap.specs.Walk.{Shows, Widths};
 pub struct Shape {
     pub len: usize,
     pub cols: usize,
-}
-
-// The lesser number.
-pub fn least(a: usize, b: usize) -> usize
-    ensures { λ r. ⌜ r ≡ min a b ⌝ }
-{
-    if a < b {
-        return a;
-    }
-    b
 }
 
 // The first character.

@@ -1,12 +1,11 @@
 // The open line: what never changes, the counts by value, and its end (`pad_to`, `force_flush_line`).
 use lines::buffer::push_blanks;
-use lines::buffer::push_text;
 use lines::encode::encode_line;
 ghost use mathlib.Core.Path.{_≡_};
-ghost use Prim.Native.Nat.{_+_, _^_, _≤_, _<_};
+ghost use Prim.Native.Nat.{_+_, _≤_};
 ghost use lib.ListN.{length};
 ghost use Rattle.lines.specs.Items.{items};
-ghost use Rattle.hard_wrap.specs.Hold.{Longer, Puts, Room, padded, Emptied, Closes, Ends};
+ghost use Rattle.hard_wrap.specs.Hold.{Room, padded, Emptied, Closes};
 
 // What a W field says of the block, the default annotation as a tag.
 pub struct Frame {
@@ -24,23 +23,8 @@ pub struct Open {
     pub lines: usize,
 }
 
-// Bytes of one tag, of so many columns, go on the line (`push`).
-pub fn put_text(st: Open, lb: &mut [u8], lt: &mut [u32], part: &[u8], used: usize, tag: u32) -> Open
-    requires { ⌜ (st .n + length (now part) ≤ length (now lb)) × (st .n + length (now part) ≤ length (now lt)) × (st .cols + used < 2 ^ 62) ⌝ }
-    ensures { λ r. ⌜ Longer st (length (now (part .entry))) used r ⌝ }
-    ensures { λ r. ⌜ Puts st (now (part .entry)) used tag (now (lb .entry)) (now (lt .entry)) r (now (lb .exit)) (now (lt .exit)) ⌝ }
-{
-    let n = push_text(lb, lt, st.n, part, tag);
-    Open {
-        n,
-        cols: st.cols + used,
-        place: st.place,
-        lines: st.lines,
-    }
-}
-
 // Spaces of the default annotation up to the width, where the block pads (`pad_to`).
-pub fn pad_line(frame: Frame, st: Open, lb: &mut [u8], lt: &mut [u32]) -> usize
+fn pad_line(frame: Frame, st: Open, lb: &mut [u8], lt: &mut [u32]) -> usize
     requires { ⌜ Room frame st 0 1 (length (now lb)) (length (now lt)) ⌝ }
     ensures { λ r. ⌜ r ≤ st .n + frame .width ⌝ }
     ensures { λ r. ⌜ items (now (lb .exit)) (now (lt .exit)) r ≡ padded frame st (items (now (lb .entry)) (now (lt .entry)) (st .n)) ⌝ }
@@ -72,24 +56,4 @@ pub fn close_line(frame: Frame, st: Open, lb: &mut [u8], lt: &mut [u32], out: &m
         place: end,
         lines: st.lines + 1,
     }
-}
-
-// A part of a piece goes on the line, and that is closed: one turn of `flush_word_hard_wrap` but for the split.
-pub fn end_line(
-    frame: Frame,
-    st: Open,
-    lb: &mut [u8],
-    lt: &mut [u32],
-    part: &[u8],
-    used: usize,
-    tag: u32,
-    out: &mut [u8],
-) -> Open
-    requires { ⌜ Room frame st (length (now part)) 1 (length (now lb)) (length (now lt)) ⌝ }
-    requires { ⌜ (st .cols ≤ frame .width) × (used < 512) ⌝ }
-    ensures { λ r. ⌜ Emptied st r ⌝ }
-    ensures { λ r. ⌜ Ends frame st (now (part .entry)) used tag (now (lb .entry)) (now (lt .entry)) (now (out .entry)) r (now (lb .exit)) (now (lt .exit)) (now (out .exit)) ⌝ }
-{
-    let full = put_text(st, lb, lt, part, used, tag);
-    close_line(frame, full, lb, lt, out)
 }

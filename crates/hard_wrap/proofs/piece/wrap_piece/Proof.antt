@@ -1,4 +1,4 @@
--- `wrap::wrap_piece` meets its contract: what is left of the piece, from the block as it now stands, gives what the whole piece gives; the walk in each turn passes
+-- `piece::wrap_piece` meets its contract: what is left of the piece, from the block as it now stands, gives what the whole piece gives; the walk in each turn passes
 -- characters that fit and stops at the first that does not. The outer measure is twice the bytes left and one for a line with columns: a turn goes forward or
 -- empties such a line; the walk's is the bytes that it has not passed. Assumes nothing.
 use mathlib.Core.Logic.{⊎-elim}
@@ -17,8 +17,8 @@ use Rattle.hard_wrap.specs.Hold.{setup, Room, Moved}
 use Rattle.hard_wrap.specs.Walk.{Going, Split}
 use Rattle.hard_wrap.proofs.Piecewise.{Walked, forward-on, piece-start, piece-turn, piece-stuck, piece-rest, piece-end}
 use Rattle.hard_wrap.proofs.Walks.{part-len, going-start, going-run, going-on, going-stop, going-end, split-same}
-use Rattle.hard_wrap.proofs.wrap.wrap_piece.Statement.{statement}
-use Rattle.hard_wrap.proofs.wrap.wrap_piece.Tie as tie
+use Rattle.hard_wrap.proofs.piece.wrap_piece.Statement.{statement}
+use Rattle.hard_wrap.proofs.piece.wrap_piece.Tie as tie
 use Rattle.fields.proofs.Texts.{rest as part-rest}
 
 abbrev Inv-walk : tie.InvT-walk

@@ -1,4 +1,4 @@
--- `wrap::wrap_line` meets its contract: each return is one case of the flat hard wrap: what fits, a character alone, or TooNarrow. Assumes nothing.
+-- `piece::wrap_line` meets its contract: each return is one case of the flat hard wrap: what fits, a character alone, or TooNarrow. Assumes nothing.
 use mathlib.Core.Logic.{⊎-elim}
 use mathlib.Core.Path.{sym}
 use Prim.Native.Nat.{_+_, _<_}
@@ -6,8 +6,8 @@ use native.Mathlib.Omega.{arith}
 use borrow.Author.Needs.{needs}
 use lib.Seq.{length-take-le}
 use Rattle.hard_wrap.proofs.Turns.{step-on, step-over, step-stuck}
-use Rattle.hard_wrap.proofs.wrap.wrap_line.Statement.{statement}
-use Rattle.hard_wrap.proofs.wrap.wrap_line.Tie as tie
+use Rattle.hard_wrap.proofs.piece.wrap_line.Statement.{statement}
+use Rattle.hard_wrap.proofs.piece.wrap_line.Tie as tie
 
 glyph-requires : tie.Need-glyph-requires
 glyph-requires c κs = search needs

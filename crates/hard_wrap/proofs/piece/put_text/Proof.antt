@@ -1,9 +1,9 @@
--- `line::put_text` meets its contract: the bytes pushed are those of the text. Assumes nothing.
+-- `piece::put_text` meets its contract: the bytes pushed are those of the text. Assumes nothing.
 use mathlib.Core.Path.{refl}
 use borrow.Author.Needs.{needs}
 use Rattle.hard_wrap.proofs.Closing.{puts}
-use Rattle.hard_wrap.proofs.line.put_text.Statement.{statement}
-use Rattle.hard_wrap.proofs.line.put_text.Tie as tie
+use Rattle.hard_wrap.proofs.piece.put_text.Statement.{statement}
+use Rattle.hard_wrap.proofs.piece.put_text.Tie as tie
 
 push-text-requires : tie.Need-push-text-requires
 push-text-requires c κs = search needs

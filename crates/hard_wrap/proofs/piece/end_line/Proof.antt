@@ -1,11 +1,11 @@
--- `line::end_line` meets its contract: text goes on the line, and that is closed. Assumes nothing.
+-- `piece::end_line` meets its contract: text goes on the line, and that is closed. Assumes nothing.
 use mathlib.Core.List.{_++_}
 use native.Mathlib.Omega.{arith}
 use borrow.Author.Needs.{needs}
 use Rattle.block.specs.Flat.{withLine}
 use Rattle.lines.specs.Bridge.{text}
-use Rattle.hard_wrap.proofs.line.end_line.Statement.{statement}
-use Rattle.hard_wrap.proofs.line.end_line.Tie as tie
+use Rattle.hard_wrap.proofs.piece.end_line.Statement.{statement}
+use Rattle.hard_wrap.proofs.piece.end_line.Tie as tie
 
 put-text-requires : tie.Need-put-text-requires
 put-text-requires c κs = search needs
