@@ -69,19 +69,19 @@ fn field_refusal(kind: Kind, letter: u8, content: &[u8]) -> u8
 pub fn fields_refusal(kind: Kind, s: &[u8]) -> u8
     ensures { λ r. ⌜ r ≡ firstOver (refusalIn kind) (raws (now (s .entry))) ⌝ }
 {
-    let mut at: usize = 0;
+    let mut rest = s;
     let mut worst: u8 = 0;
     loop {
-        let f = field_at(s, at);
+        let f = field_at(rest, 0);
         match f {
             Field::At {
                 letter,
                 start,
                 next,
             } => {
-                let n = field_refusal(kind, letter, &s[start..next]);
+                let n = field_refusal(kind, letter, &rest[start..next]);
                 worst = first_of(worst, n);
-                at = next;
+                rest = &rest[next..];
             }
             Field::Broken => {
                 return 1;

@@ -6,7 +6,7 @@ use Prim.Native.Nat.{ℕ, _+_, _-_, _<_}
 use native.Mathlib.Omega.{arith}
 use borrow.Author.Needs.{needs}
 use borrow.Fn.PlainCycle.{Measures, is, falls, and}
-use lib.ListN.{length}
+use lib.ListN.{length, length-drop}
 use denote.Ref.{now}
 use Rattle.fields.specs.Field.{broken, raws}
 use Rattle.fields.specs.First.{firstOf, firstOver}
@@ -18,6 +18,7 @@ use Rattle.fields.specs.declared.walk.Kind.the-variants.{Job, Pieces, Li
 use Rattle.fields.proofs.Fields.{FieldIs, field-is, field-broken, field-end}
 use Rattle.fields.proofs.First.{Walk, walk-start, walk-on, walk-broken, walk-end}
 use Rattle.fields.proofs.Sheets.{text-line, no-line, wide-cell, narrow-cell, short-cell, no-cell}
+use Rattle.fields.proofs.Texts.{rest}
 use Rattle.fields.proofs.field.field_at.Reads as field-at
 use Rattle.fields.proofs.field.first_of.Reads as first-of
 use Rattle.fields.proofs.judge.border_refusal.Reads as border-refusal
@@ -69,10 +70,10 @@ broken-in Cells = refl
 broken-in Prefixes = refl
 
 abbrev Inv-loop : fields-refusal-lts.InvT-loop
-Inv-loop kind s at₀ worst₀ at worst = Walk (refusalIn kind) s (firstOver (refusalIn kind) (raws s)) at worst
+Inv-loop kind s rest₀ worst₀ rest worst = Walk (refusalIn kind) (firstOver (refusalIn kind) (raws s)) rest worst
 
 abbrev μ-loop : fields-refusal-lts.MeasureT-loop
-μ-loop kind s at₀ worst₀ at worst = length s - at
+μ-loop kind s rest₀ worst₀ rest worst = length rest
 
 -- the field that a turn passes
 found : (t : ℕ)
@@ -82,10 +83,8 @@ found : (t : ℕ)
     fields-refusal.Post
     Inv-loop
     μ-loop)
-    → FieldIs (now (c .before .before .before .before .before .before .args .s)) (c .before .before .before .before .loop .at) (c .before .f .given .0 .0) (c .before .f .given .0 .1 .0) (c .before .f .given .0 .1 .1 .0)
-found t c =
-    let l = c .before .before .before .before .loop in
-    field-is _ _ _ _ _ (l .inv .inside) (sym (c .before .before .before .field-at .ensures .0) ∙ c .before .f .given .1)
+    → FieldIs (now (c .before .before .before .before .loop .rest)) 0 (c .before .f .given .0 .0) (c .before .f .given .0 .1 .0) (c .before .f .given .0 .1 .1 .0)
+found t c = field-is _ _ _ _ _ (omega arith) (sym (c .before .before .before .field-at .ensures .0) ∙ c .before .f .given .1)
 
 pub +cell-refusal+field-refusal+fields-refusal+line-refusal-spec : {M : Type 1} → statement M
 +cell-refusal+field-refusal+fields-refusal+line-refusal-spec =
@@ -149,21 +148,24 @@ pub +cell-refusal+field-refusal+fields-refusal+line-refusal-spec : {M : Type 1} 
     (λ c. let r = found t c in omega (arith, r .order, r .inside))
     (λ c κs. (let e = c .before .before .before .before .before .before .before .pre .0 in omega arith, tt))
     (λ c κs. search needs)
-    (λ c. let r = found t (c .before .before .before) in omega (arith, r .begins, r .order, r .inside))
+    (λ c. found t (c .before .before .before) .inside)
+    (λ c. let r = found t (c .before .before .before) in omega (arith, r .inside))
+    (λ c. search needs)
+    (λ c. let r = found t (c .before .before .before .before) in rw (rest _ _, length-drop) (omega (arith, r .begins, r .order, r .inside)))
     (λ c.
-    let d = c .before .before .before in
-    rw (c .first-of .ensures)
-    (walk-on _ _ _ _ _ _ _ _ _ (d .before .before .before .before .loop .inv) (found t d) (c .before .field-refusal .ensures)))
+    let d = c .before .before .before .before in
+    rw (c .before .first-of .ensures)
+    (walk-on _ _ _ _ (d .before .before .before .before .loop .inv) _ _ _ _ (found t d) (c .before .before .field-refusal .ensures)))
     -- a rest that is no field
     (λ c. search needs)
     (λ c.
     let d = c .before .before in
-    walk-broken _ _ _ _ _ (d .before .loop .inv) (field-broken _ _ (sym (d .field-at .ensures .0) ∙ c .enum-told .given .1)) (broken-in (d .before .before .before .args .kind)))
+    walk-broken _ _ _ _ (d .before .loop .inv) (field-broken _ 0 (sym (d .field-at .ensures .0) ∙ c .enum-told .given .1)) (broken-in (d .before .before .before .args .kind)))
     -- the end
     (λ c. search needs)
     (λ c.
     let d = c .before .before in
-    walk-end _ _ _ _ _ (d .before .loop .inv) (field-end _ _ (sym (d .field-at .ensures .0) ∙ c .enum-told2 .given .1))))
+    walk-end _ _ _ _ (d .before .loop .inv) (field-end _ 0 (sym (d .field-at .ensures .0) ∙ c .enum-told2 .given .1))))
     (λ t. line-refusal-lts.spec
     (_, fields-refusal.Post, _, border-refusal.Learnt)
     _
