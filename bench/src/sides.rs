@@ -53,11 +53,11 @@ fn ours(input: &Input, store: &mut [u8]) -> usize {
     let answer = match input {
         Input::Job(job) => sheet::render(job, store),
         Input::Columns {
-            setup,
+            options,
             sheet,
             cells,
             collapse,
-        } => sheet::append_columns_with_borders(*setup, sheet, cells, *collapse, store),
+        } => sheet::append_columns_with_borders(*options, sheet, cells, *collapse, store),
     };
     answer.expect("a workload is not refused")
 }
@@ -69,23 +69,23 @@ fn rust(input: &Input) -> Duration {
             timed(|| -> Vec<Line<String>> { block.run().expect("a job that is not too narrow") })
         }
         Input::Columns {
-            setup,
+            options,
             sheet,
             cells,
             collapse,
         } => {
-            let call = Columns::read(&of(setup), sheet, cells, *collapse).expect("a row");
+            let call = Columns::read(&of(options), sheet, cells, *collapse).expect("a row");
             timed(|| -> Vec<Line<String>> { call.run() })
         }
     }
 }
 
-fn of(setup: &sheet::Setup) -> Sheet {
+fn of(options: &sheet::RenderOptions) -> Sheet {
     Sheet {
-        width: setup.width,
-        pad: setup.pad,
-        borders: setup.borders,
-        annotation: setup.annotation,
+        width: options.width,
+        pad: options.pad,
+        borders: options.borders,
+        annotation: options.annotation,
     }
 }
 
@@ -95,7 +95,7 @@ pub fn agree(input: &Input) -> bool {
     let answer = match input {
         Input::Job(job) => call::job(job, &mut theirs),
         Input::Columns {
-            setup,
+            options,
             sheet,
             cells,
             collapse,
@@ -104,7 +104,7 @@ pub fn agree(input: &Input) -> bool {
                 cells,
                 collapse: *collapse,
             };
-            call::row(&of(setup), sheet, row, &mut theirs)
+            call::row(&of(options), sheet, row, &mut theirs)
         }
     };
     let mut store = vec![0; STORE];

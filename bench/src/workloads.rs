@@ -2,13 +2,13 @@
 
 use crate::text::{self, Random};
 use oracle::format::{Job, Part, push_field, write_job};
-use sheet::Setup;
+use sheet::RenderOptions;
 
 /// The inputs of one call.
 pub enum Input {
     Job(Vec<u8>),
     Columns {
-        setup: Setup,
+        options: RenderOptions,
         sheet: Vec<u8>,
         cells: Vec<u8>,
         collapse: bool,
@@ -91,7 +91,7 @@ fn row(lines: usize) -> Input {
     let mut random = Random::new();
     let cells: Vec<Vec<u8>> = (0..8).map(|_| cell(&mut random, 9, lines)).collect();
     Input::Columns {
-        setup: setup(79),
+        options: options(79),
         sheet: border(79),
         cells: cells.concat(),
         collapse: false,
@@ -103,7 +103,7 @@ fn nested(lines: usize) -> Input {
     let mut random = Random::new();
     let cells: Vec<Vec<u8>> = (0..4).map(|_| table_cell(&mut random, lines)).collect();
     Input::Columns {
-        setup: setup(83),
+        options: options(83),
         sheet: border(83),
         cells: cells.concat(),
         collapse: true,
@@ -122,13 +122,13 @@ fn table_cell(random: &mut Random, lines: usize) -> Vec<u8> {
 
 fn with_row(table: &[u8], cells: &[u8]) -> Vec<u8> {
     let mut store = vec![0; 65_536];
-    let done = sheet::append_columns_with_borders(setup(20), table, cells, false, &mut store);
+    let done = sheet::append_columns_with_borders(options(20), table, cells, false, &mut store);
     store.truncate(done.expect("a table of twenty columns"));
     store
 }
 
-fn setup(width: u8) -> Setup {
-    Setup {
+fn options(width: u8) -> RenderOptions {
+    RenderOptions {
         width,
         pad: false,
         borders: true,

@@ -3,7 +3,7 @@
 //!
 //!     oracle vectors rows 11 1000000 65536 | cargo run --release --example replay
 
-use sheet::{Answer, Setup};
+use sheet::{Answer, RenderOptions};
 use std::io::{self, BufReader, Read};
 use std::process::ExitCode;
 
@@ -27,17 +27,27 @@ fn number(from: &mut impl Read, size: usize) -> io::Result<usize> {
 fn call(kind: u8, head: &[u8; 5], inputs: &[Vec<u8>], store: &mut [u8]) -> Answer {
     let [width, flags, annotation, ..] = *head;
     let (pad, borders, flag) = (flags & 1 != 0, flags & 2 != 0, flags & 4 != 0);
-    let setup = Setup { width, pad, borders, annotation };
+    let options = RenderOptions {
+        width,
+        pad,
+        borders,
+        annotation,
+    };
     match kind {
         0 => sheet::render(&inputs[0], store),
-        1 => sheet::append_subrender(setup, &inputs[0], &inputs[1], &inputs[2], flag, store),
-        2 => sheet::append_columns_with_borders(setup, &inputs[0], &inputs[1], flag, store),
-        _ => sheet::append_vert_row(setup, &inputs[0], &inputs[1], store),
+        1 => sheet::append_subrender(options, &inputs[0], &inputs[1], &inputs[2], flag, store),
+        2 => sheet::append_columns_with_borders(options, &inputs[0], &inputs[1], flag, store),
+        _ => sheet::append_vert_row(options, &inputs[0], &inputs[1], store),
     }
 }
 
 /// Does the call give the record's answer?
-fn agrees(from: &mut impl Read, kind: u8, inputs: &mut [Vec<u8>; 3], store: &mut Vec<u8>) -> io::Result<bool> {
+fn agrees(
+    from: &mut impl Read,
+    kind: u8,
+    inputs: &mut [Vec<u8>; 3],
+    store: &mut Vec<u8>,
+) -> io::Result<bool> {
     let mut head = [0; 5];
     from.read_exact(&mut head)?;
     let count = [1, 3, 2, 2][kind as usize];
@@ -72,5 +82,9 @@ fn main() -> ExitCode {
         }
     }
     println!("records: {records}, differences: {differences}");
-    if differences == 0 { ExitCode::SUCCESS } else { ExitCode::FAILURE }
+    if differences == 0 {
+        ExitCode::SUCCESS
+    } else {
+        ExitCode::FAILURE
+    }
 }

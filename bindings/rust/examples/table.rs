@@ -1,7 +1,7 @@
 //! Wraps the cells of a picking list, lays them onto a sheet row by row, and prints the sheet: the texts by [`sheet::render`],
 //! the rows by [`sheet::append_columns_with_borders`], which joins their edges to the borders.
 
-use sheet::{Refusal, Setup, append_columns_with_borders, render};
+use sheet::{Refusal, RenderOptions, append_columns_with_borders, render};
 
 const WIDTHS: [u8; 3] = [16, 5, 8];
 const ROWS: [[&str; 3]; 3] = [
@@ -58,7 +58,7 @@ fn main() -> Result<(), Refusal> {
         field(b'B', &border[..=usize::from(width)]),
     ]
     .concat();
-    let setup = Setup {
+    let options = RenderOptions {
         width,
         pad: false,
         borders: true,
@@ -68,7 +68,7 @@ fn main() -> Result<(), Refusal> {
         let cells = std::iter::zip(WIDTHS, row).map(|(width, text)| cell(width, text));
         let cells = cells.collect::<Result<Vec<_>, _>>()?.concat();
         let mut store = vec![0; 65_536];
-        let length = append_columns_with_borders(setup, &sheet, &cells, false, &mut store)?;
+        let length = append_columns_with_borders(options, &sheet, &cells, false, &mut store)?;
         store.truncate(length);
         sheet = store;
     }

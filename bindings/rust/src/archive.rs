@@ -3,7 +3,7 @@
 //! Every `unsafe` is sound for the same reason: a slice is a pointer that is not null and
 //! valid for its length, and a `&mut` overlaps with nothing else that is lent.
 
-use crate::Setup;
+use crate::RenderOptions;
 
 #[rustfmt::skip]
 unsafe extern "C" {
@@ -45,7 +45,7 @@ pub fn render(job: &[u8], store: &mut [u8], length: &mut u64) -> u8 {
 }
 
 pub fn append_subrender(
-    setup: Setup,
+    options: RenderOptions,
     sheet: &[u8],
     (guest, prefixes, repeat_last): (&[u8], &[u8], bool),
     store: &mut [u8],
@@ -60,10 +60,10 @@ pub fn append_subrender(
             prefixes.as_ptr(),
             prefixes.len(),
             repeat_last,
-            setup.width,
-            setup.pad,
-            setup.borders,
-            setup.annotation,
+            options.width,
+            options.pad,
+            options.borders,
+            options.annotation,
             store.as_mut_ptr(),
             store.len(),
             length,
@@ -72,7 +72,7 @@ pub fn append_subrender(
 }
 
 pub fn append_columns(
-    setup: Setup,
+    options: RenderOptions,
     sheet: &[u8],
     (cells, collapse): (&[u8], bool),
     store: &mut [u8],
@@ -85,10 +85,10 @@ pub fn append_columns(
             cells.as_ptr(),
             cells.len(),
             collapse,
-            setup.width,
-            setup.pad,
-            setup.borders,
-            setup.annotation,
+            options.width,
+            options.pad,
+            options.borders,
+            options.annotation,
             store.as_mut_ptr(),
             store.len(),
             length,
@@ -97,7 +97,7 @@ pub fn append_columns(
 }
 
 pub fn append_vert_row(
-    setup: Setup,
+    options: RenderOptions,
     sheet: &[u8],
     cells: &[u8],
     store: &mut [u8],
@@ -109,10 +109,10 @@ pub fn append_vert_row(
             sheet.len(),
             cells.as_ptr(),
             cells.len(),
-            setup.width,
-            setup.pad,
-            setup.borders,
-            setup.annotation,
+            options.width,
+            options.pad,
+            options.borders,
+            options.annotation,
             store.as_mut_ptr(),
             store.len(),
             length,

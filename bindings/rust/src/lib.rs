@@ -42,7 +42,7 @@ pub type Answer = Result<usize, Refusal>;
 
 /// What comes with each call that lays lines onto a sheet.
 #[derive(Clone, Copy, Debug, PartialEq, Eq)]
-pub struct Setup {
+pub struct RenderOptions {
     /// The sheet's width in columns. It counts for padding and for the borders of
     /// [`append_vert_row`]; a row of cells is as wide as the cells and the edges between them.
     pub width: u8,
@@ -85,18 +85,18 @@ pub fn render(job: &[u8], store: &mut [u8]) -> Answer {
 /// `repeat_last` the last prefix repeats. Refusals: 1, 2, 3, 7, 8 and 9.
 ///
 /// ```
-/// use sheet::{Setup, append_subrender};
+/// use sheet::{RenderOptions, append_subrender};
 ///
-/// let setup = Setup { width: 9, pad: false, borders: true, annotation: 0 };
+/// let options = RenderOptions { width: 9, pad: false, borders: true, annotation: 0 };
 /// let empty = b"H\0\x02\0\0";
 /// let guest = b"H\0\x02\0\x01L\0\x06S\0\x03\0ab";
 /// let mut store = [0; 32];
-/// let length = append_subrender(setup, empty, guest, b"P\0\x02* ", false, &mut store)?;
+/// let length = append_subrender(options, empty, guest, b"P\0\x02* ", false, &mut store)?;
 /// assert_eq!(&store[..length], b"H\0\x02\0\x01L\0\x08S\0\x05\0* ab");
 /// # Ok::<(), sheet::Refusal>(())
 /// ```
 pub fn append_subrender(
-    setup: Setup,
+    options: RenderOptions,
     sheet: &[u8],
     guest: &[u8],
     prefixes: &[u8],
@@ -105,7 +105,7 @@ pub fn append_subrender(
 ) -> Answer {
     let mut length = 0;
     let guests = (guest, prefixes, repeat_last);
-    let number = archive::append_subrender(setup, sheet, guests, store, &mut length);
+    let number = archive::append_subrender(options, sheet, guests, store, &mut length);
     answer(number, length)
 }
 
@@ -116,28 +116,28 @@ pub fn append_subrender(
 /// these two. Refusals: 1, 2, 3, 6, 7, 8 and 9.
 ///
 /// ```
-/// use sheet::{Setup, append_columns_with_borders};
+/// use sheet::{RenderOptions, append_columns_with_borders};
 ///
-/// let setup = Setup { width: 3, pad: false, borders: true, annotation: 0 };
+/// let options = RenderOptions { width: 3, pad: false, borders: true, annotation: 0 };
 /// // ───, and the cells "a" and "b", each of width 1.
 /// let under = b"H\0\x02\0\x01B\0\x04\0\0\0\0";
 /// let cells = b"C\0\x09\x01L\0\x05S\0\x02\0aC\0\x09\x01L\0\x05S\0\x02\0b";
 /// let mut store = [0; 64];
-/// let length = append_columns_with_borders(setup, under, cells, false, &mut store)?;
+/// let length = append_columns_with_borders(options, under, cells, false, &mut store)?;
 /// // ─┬─, a│b, ─┴─
 /// let joined = b"H\0\x02\0\x03B\0\x04\0\0\x02\0L\0\x09S\0\x06\0a\xe2\x94\x82bB\0\x04\0\0\x01\0";
 /// assert_eq!(&store[..length], joined);
 /// # Ok::<(), sheet::Refusal>(())
 /// ```
 pub fn append_columns_with_borders(
-    setup: Setup,
+    options: RenderOptions,
     sheet: &[u8],
     cells: &[u8],
     collapse: bool,
     store: &mut [u8],
 ) -> Answer {
     let mut length = 0;
-    let number = archive::append_columns(setup, sheet, (cells, collapse), store, &mut length);
+    let number = archive::append_columns(options, sheet, (cells, collapse), store, &mut length);
     answer(number, length)
 }
 
@@ -147,21 +147,26 @@ pub fn append_columns_with_borders(
 /// 7, 8 and 9.
 ///
 /// ```
-/// use sheet::{Setup, append_vert_row};
+/// use sheet::{RenderOptions, append_vert_row};
 ///
-/// let setup = Setup { width: 2, pad: false, borders: true, annotation: 0 };
+/// let options = RenderOptions { width: 2, pad: false, borders: true, annotation: 0 };
 /// let empty = b"H\0\x02\0\0";
 /// let cells = b"C\0\x09\x01L\0\x05S\0\x02\0aC\0\x09\x01L\0\x05S\0\x02\0b";
 /// let mut store = [0; 64];
-/// let length = append_vert_row(setup, empty, cells, &mut store)?;
+/// let length = append_vert_row(options, empty, cells, &mut store)?;
 /// // a, //, b, ──
 /// let below = b"H\0\x02\0\x04L\0\x05S\0\x02\0aB\0\x03\0\x05\x05L\0\x05S\0\x02\0bB\0\x03\0\0\0";
 /// assert_eq!(&store[..length], below);
 /// # Ok::<(), sheet::Refusal>(())
 /// ```
-pub fn append_vert_row(setup: Setup, sheet: &[u8], cells: &[u8], store: &mut [u8]) -> Answer {
+pub fn append_vert_row(
+    options: RenderOptions,
+    sheet: &[u8],
+    cells: &[u8],
+    store: &mut [u8],
+) -> Answer {
     let mut length = 0;
-    let number = archive::append_vert_row(setup, sheet, cells, store, &mut length);
+    let number = archive::append_vert_row(options, sheet, cells, store, &mut length);
     answer(number, length)
 }
 

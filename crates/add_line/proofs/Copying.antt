@@ -21,7 +21,7 @@ use Rattle.block.proofs.Bounds.{length-field}
 use Rattle.rows.specs.Answer.{fits}
 use Rattle.tagged_line.specs.Pieces.{Copies}
 use Rattle.tagged_line.proofs.Laying.{content-size}
-use Rattle.add_line.specs.Emitted.{Emitted, InBounds, Next, CopiesLine, CopiesLines}
+use Rattle.add_line.specs.Emitted.{Emitted, InBounds, OneLineMore, CopiesLine, CopiesLines}
 use Rattle.add_line.specs.declared.lines.Lines.{Lines}
 use Rattle.add_line.proofs.Emitting.{one-more, wrote-length, field-bytes}
 
@@ -128,7 +128,7 @@ walk-start out p body h = record { size = refl; inside = omega arith; bounds = h
 
 pub walk-on : (out₀ : List ℕ) (p : Lines) (body out : List ℕ) (q : Lines) (at letter start next : ℕ) (out′ : List ℕ) (r : Lines)
     → Walk out₀ p body out q at → p .count + length (raws body) < 1000000 → FieldIs body at letter start next
-    → Next q r → length out′ ≡ length out → CopiesLine out q letter (take (next - start) (drop start body)) out′ r → Walk out₀ p body out′ r next
+    → OneLineMore q r → length out′ ≡ length out → CopiesLine out q letter (take (next - start) (drop start body)) out′ r → Walk out₀ p body out′ r next
 walk-on out₀ p body out q at letter start next out′ r w few f more same one =
     let n : length (raws (drop at body)) ≡ suc (length (raws (drop next body))) = ap length (f .fields) in
     record {

@@ -20,13 +20,13 @@ use Rattle.fields.specs.Widths.{width}
 use Rattle.fields.proofs.Sets.{sets-append, wrote-then, wrote-before}
 use Rattle.borders.specs.BorderHoriz.{stretch-to, to-string, drawn}
 use Rattle.borders.proofs.Drawing.{drawn-string}
-use Rattle.rows.specs.declared.Setup.{Setup}
+use Rattle.rows.specs.declared.RenderOptions.{RenderOptions}
 use Rattle.rows.specs.TaggedLine.{join, push-str, pad-to}
 use Rattle.rows.specs.SubRenderer.{padded}
 use Rattle.rows.specs.Answer.{fits, finished}
-use Rattle.tagged_line.specs.Held.{Held, Within, Grown, newLine, Pads, Draws}
+use Rattle.tagged_line.specs.Held.{Held, Within, LineGrown, newLine, Pads, Draws}
 use Rattle.tagged_line.specs.declared.line.Line.{Line}
-use Rattle.add_line.specs.Emitted.{Emitted, InBounds, Fits, noLines, Ends, AddsText, PutsBorder, AddsBorder}
+use Rattle.add_line.specs.Emitted.{Emitted, InBounds, LineBegun, noLines, FinishesLine, AddsTextLine, PutsBorder, AddsBorder}
 use Rattle.add_line.specs.declared.lines.Lines.{Lines}
 
 -- ---- the start
@@ -109,7 +109,7 @@ field-bytes l bs = refl
 -- The head in front of the line that is held ends it.
 pub ends : (out out′ : List ℕ) (p r : Lines) (line : Line) (next : ℕ) → line .base ≡ p .at + 3 → r .at ≡ line .at → r .count ≡ p .count + 1
     → ((p .long ≡ true) × (r .long ≡ p .long)) ⊎ ((p .long ≡ false) × (r .long ≡ ltb 65535 (line .at - line .base)))
-    → Wrote out (p .at) (head 0x4C ((line .at - line .base) % 65536)) out′ next → Ends out p line out′ r
+    → Wrote out (p .at) (head 0x4C ((line .at - line .base) % 65536)) out′ next → FinishesLine out p line out′ r
 ends out out′ p r line next base at count came w st mid ls l e same held =
     let bs = piecesBytes l in
     let n : line .at - line .base ≡ length bs = let q = held .place in omega (arith, q) in
@@ -124,14 +124,14 @@ ends out out′ p r line next base at count came w st mid ls l e same held =
     rw (field-bytes 0x4C bs) (wrote-before v (rw k at w)))
 
 -- With pad it is filled first.
-pub adds-padded : (out o₁ out′ : List ℕ) (p r : Lines) (line filled : Line) (s : Setup) (w : ℕ) → s .pad ≡ true → w ≡ s .width
-    → length o₁ ≡ length out → Pads out line w (s .annotation) o₁ filled → Ends o₁ p filled out′ r → AddsText out p line s out′ r
+pub adds-padded : (out o₁ out′ : List ℕ) (p r : Lines) (line filled : Line) (s : RenderOptions) (w : ℕ) → s .pad ≡ true → w ≡ s .width
+    → length o₁ ≡ length out → Pads out line w (s .annotation) o₁ filled → FinishesLine o₁ p filled out′ r → AddsTextLine out p line s out′ r
 unfolding padded
 adds-padded out o₁ out′ p r line filled s w pad wide same pads ends st mid ls l e size held =
     rw (pad, ← wide) (ends st mid ls (pad-to l w (s .annotation)) e (same ∙ size) (pads mid l held))
 
 -- Without pad it is ended as it stands.
-pub adds-text : (out out′ : List ℕ) (p r : Lines) (line : Line) (s : Setup) → s .pad ≡ false → Ends out p line out′ r → AddsText out p line s out′ r
+pub adds-text : (out out′ : List ℕ) (p r : Lines) (line : Line) (s : RenderOptions) → s .pad ≡ false → FinishesLine out p line out′ r → AddsTextLine out p line s out′ r
 unfolding padded
 adds-text out out′ p r line s pad ends st mid ls l e size held = rw pad (ends st mid ls l e size held)
 
@@ -175,9 +175,9 @@ drawn-within p new k h is few =
     rw is (record { base = omega arith; piece = omega arith; room = omega (arith, h .at, h .count, few); cols = omega (arith, few) })
 
 -- The drawing is a line of text that was begun where the lines end.
-pub drawn-fits : (p : Lines) (new line : Line) (k : ℕ) → new ≡ newLine (p .at) → Grown new line (4 + 4 * k + 4 * 0) → k < 1048576 → Fits p line 8000000
+pub drawn-fits : (p : Lines) (new line : Line) (k : ℕ) → new ≡ newLine (p .at) → LineGrown new line (4 + 4 * k + 4 * 0) → k < 1048576 → LineBegun p line 8000000
 drawn-fits p new line k is grown few =
-    let g : Grown (newLine (p .at)) line (4 + 4 * k + 4 * 0) = rw is at grown in
+    let g : LineGrown (newLine (p .at)) line (4 + 4 * k + 4 * 0) = rw is at grown in
     record {
       base = g .base;
       on = omega (arith, g .base, g .on);
@@ -187,8 +187,8 @@ drawn-fits p new line k is grown few =
     }
 
 -- With pad it becomes text, under its own annotation.
-pub adds-drawn : (out o₁ out′ : List ℕ) (p r : Lines) (s : Setup) (a : ℕ) (segs : List ℕ) (new line : Line) → s .pad ≡ true → new ≡ newLine (p .at)
-    → length o₁ ≡ length out → Draws out new a segs 0 false o₁ line → AddsText o₁ p line s out′ r → AddsBorder out p s a segs out′ r
+pub adds-drawn : (out o₁ out′ : List ℕ) (p r : Lines) (s : RenderOptions) (a : ℕ) (segs : List ℕ) (new line : Line) → s .pad ≡ true → new ≡ newLine (p .at)
+    → length o₁ ≡ length out → Draws out new a segs 0 false o₁ line → AddsTextLine o₁ p line s out′ r → AddsBorder out p s a segs out′ r
 unfolding padded
 adds-drawn out o₁ out′ p r s a segs new line pad is same draws adds st ls e =
     let held : Held out (push-str [] a (to-string segs)) o₁ line =
@@ -197,7 +197,7 @@ adds-drawn out o₁ out′ p r s a segs new line pad is same draws adds st ls e 
     rw pad (rw pad at x)
 
 -- Without pad it is put as it stands.
-pub adds-border : (out out′ : List ℕ) (p r : Lines) (s : Setup) (a : ℕ) (segs : List ℕ) → s .pad ≡ false → PutsBorder out p a segs out′ r
+pub adds-border : (out out′ : List ℕ) (p r : Lines) (s : RenderOptions) (a : ℕ) (segs : List ℕ) → s .pad ≡ false → PutsBorder out p a segs out′ r
     → AddsBorder out p s a segs out′ r
 unfolding padded
 adds-border out out′ p r s a segs pad puts st ls e = rw pad (puts st ls e)

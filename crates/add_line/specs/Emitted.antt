@@ -11,7 +11,7 @@ use Rattle.fields.specs.Field.{whole, raws, readAll, all}
 use Rattle.fields.specs.Sheet.{Piece, RenderLine, text, border, readLine, linesBytes}
 use Rattle.fields.specs.Answer.{give, rendered}
 use Rattle.fields.specs.declared.answer.Rendered.{Rendered}
-use Rattle.rows.specs.declared.Setup.{Setup}
+use Rattle.rows.specs.declared.RenderOptions.{RenderOptions}
 use Rattle.rows.specs.SubRenderer.{padded}
 use Rattle.rows.specs.Answer.{fits, finished}
 use Rattle.tagged_line.specs.Held.{Held}
@@ -26,13 +26,13 @@ pub record InBounds (p : Lines) : Type 0 where
   pub count : p .count < 1048576
 
 -- one line more
-pub record Next (p r : Lines) : Type 0 where
+pub record OneLineMore (p r : Lines) : Type 0 where
   pub count : r .count ≡ p .count + 1
   pub on : p .at ≤ r .at
   pub at : r .at ≤ p .at + 8388608
 
 -- a line of text begun where the lines end, of n bytes and columns at most
-pub record Fits (p : Lines) (line : Line) (n : ℕ) : Type 0 where
+pub record LineBegun (p : Lines) (line : Line) (n : ℕ) : Type 0 where
   pub base : line .base ≡ p .at + 3
   pub on : line .base ≤ line .at
   pub piece : line .piece ≤ line .at
@@ -56,14 +56,14 @@ pub record Emitted (st : List ℕ) (ls : List RenderLine) (out : List ℕ) (p : 
 -- ---- what is done to them, whatever the lines
 
 -- a text line as it stands: begun in the store mid, it holds the pieces l
-abbrev pub Ends : List ℕ → Lines → Line → List ℕ → Lines → Type 0
-Ends out p line out′ r =
+abbrev pub FinishesLine : List ℕ → Lines → Line → List ℕ → Lines → Type 0
+FinishesLine out p line out′ r =
     (st mid : List ℕ) (ls : List RenderLine) (l : List Piece) → Emitted st ls mid p → length out ≡ length mid → Held mid l out line
     → Emitted st (ls ++ (text l ∷ [])) out′ r
 
 -- `add_line` of a text line
-abbrev pub AddsText : List ℕ → Lines → Line → Setup → List ℕ → Lines → Type 0
-AddsText out p line s out′ r =
+abbrev pub AddsTextLine : List ℕ → Lines → Line → RenderOptions → List ℕ → Lines → Type 0
+AddsTextLine out p line s out′ r =
     (st mid : List ℕ) (ls : List RenderLine) (l : List Piece) → Emitted st ls mid p → length out ≡ length mid → Held mid l out line
     → Emitted st (ls ++ (padded s (text l) ∷ [])) out′ r
 
@@ -73,7 +73,7 @@ PutsBorder out p a segs out′ r =
     (st : List ℕ) (ls : List RenderLine) → Emitted st ls out p → Emitted st (ls ++ (border a segs ∷ [])) out′ r
 
 -- `add_line` of a border
-abbrev pub AddsBorder : List ℕ → Lines → Setup → ℕ → List ℕ → List ℕ → Lines → Type 0
+abbrev pub AddsBorder : List ℕ → Lines → RenderOptions → ℕ → List ℕ → List ℕ → Lines → Type 0
 AddsBorder out p s a segs out′ r =
     (st : List ℕ) (ls : List RenderLine) → Emitted st ls out p → Emitted st (ls ++ (padded s (border a segs) ∷ [])) out′ r
 

@@ -8,12 +8,12 @@ use tagged_line::piece::copy_pieces;
 ghost use Prim.Native.Nat.{_+_, _≤_, _<_};
 ghost use lib.ListN.{length};
 ghost use Rattle.fields.specs.Field.{raws};
-ghost use Rattle.add_line.specs.Emitted.{InBounds, Next, CopiesLine, CopiesLines};
+ghost use Rattle.add_line.specs.Emitted.{InBounds, OneLineMore, CopiesLine, CopiesLines};
 
 // One line: a text piece by piece, a border whole.
 fn copy_line(out: &mut [u8], lines: Lines, letter: u8, content: &[u8]) -> Lines
     requires { ⌜ InBounds lines × (length (now content) < 65536) ⌝ }
-    ensures { λ r. ⌜ Next lines r ⌝ }
+    ensures { λ r. ⌜ OneLineMore lines r ⌝ }
     ensures { λ r. ⌜ CopiesLine (now (out .entry)) lines letter (now (content .entry)) (now (out .exit)) r ⌝ }
 {
     let at = lines.at;

@@ -7,7 +7,7 @@ use fields::field::wide;
 use fields::store::put_byte;
 use fields::store::put_bytes;
 use fields::store::put_head;
-use rows::Setup;
+use rows::RenderOptions;
 use tagged_line::line::Line;
 use tagged_line::line::new_line;
 use tagged_line::line::pad_to;
@@ -15,7 +15,7 @@ use tagged_line::line::push_drawn;
 ghost use mathlib.Core.Path.{_≡_};
 ghost use Prim.Native.Nat.{_+_, _^_, _≤_, _<_};
 ghost use lib.ListN.{length};
-ghost use Rattle.add_line.specs.Emitted.{noLines, InBounds, Next, Fits, Ends, AddsText, PutsBorder, AddsBorder, Closes};
+ghost use Rattle.add_line.specs.Emitted.{noLines, InBounds, OneLineMore, LineBegun, FinishesLine, AddsTextLine, PutsBorder, AddsBorder, Closes};
 
 // The place after the lines so far, their number, and whether one of them has more than 65,535 bytes (refusal 7).
 pub struct Lines {
@@ -36,10 +36,10 @@ pub fn no_lines() -> Lines
 }
 
 // The head in front of a text line's content, which ends the line.
-fn close_line(out: &mut [u8], lines: Lines, line: Line) -> Lines
-    requires { ⌜ InBounds lines × Fits lines line 8300000 ⌝ }
-    ensures { λ r. ⌜ Next lines r ⌝ }
-    ensures { λ r. ⌜ Ends (now (out .entry)) lines line (now (out .exit)) r ⌝ }
+fn finish_line(out: &mut [u8], lines: Lines, line: Line) -> Lines
+    requires { ⌜ InBounds lines × LineBegun lines line 8300000 ⌝ }
+    ensures { λ r. ⌜ OneLineMore lines r ⌝ }
+    ensures { λ r. ⌜ FinishesLine (now (out .entry)) lines line (now (out .exit)) r ⌝ }
 {
     let n = line.at - line.base;
     put_head(out, lines.at, b'L', n % 65536);
@@ -52,23 +52,23 @@ fn close_line(out: &mut [u8], lines: Lines, line: Line) -> Lines
 }
 
 // `add_line` of a text: with pad it is filled to the sheet's width.
-pub fn end_line(out: &mut [u8], lines: Lines, line: Line, setup: Setup) -> Lines
-    requires { ⌜ InBounds lines × Fits lines line 8000000 ⌝ }
-    ensures { λ r. ⌜ Next lines r ⌝ }
-    ensures { λ r. ⌜ AddsText (now (out .entry)) lines line setup (now (out .exit)) r ⌝ }
+pub fn add_text_line(out: &mut [u8], lines: Lines, line: Line, options: RenderOptions) -> Lines
+    requires { ⌜ InBounds lines × LineBegun lines line 8000000 ⌝ }
+    ensures { λ r. ⌜ OneLineMore lines r ⌝ }
+    ensures { λ r. ⌜ AddsTextLine (now (out .entry)) lines line options (now (out .exit)) r ⌝ }
 {
-    if setup.pad {
-        let width = wide(setup.width);
-        let padded = pad_to(out, line, width, setup.annotation);
-        return close_line(out, lines, padded);
+    if options.pad {
+        let width = wide(options.width);
+        let padded = pad_to(out, line, width, options.annotation);
+        return finish_line(out, lines, padded);
     }
-    close_line(out, lines, line)
+    finish_line(out, lines, line)
 }
 
 // A border as it stands: a B field.
 pub fn put_border(out: &mut [u8], lines: Lines, annotation: u8, segs: &[u8]) -> Lines
     requires { ⌜ InBounds lines × (length (now segs) < 2 ^ 20) ⌝ }
-    ensures { λ r. ⌜ Next lines r ⌝ }
+    ensures { λ r. ⌜ OneLineMore lines r ⌝ }
     ensures { λ r. ⌜ PutsBorder (now (out .entry)) lines annotation (now (segs .entry)) (now (out .exit)) r ⌝ }
 {
     let n = segs.len() + 1;
@@ -84,16 +84,22 @@ pub fn put_border(out: &mut [u8], lines: Lines, annotation: u8, segs: &[u8]) -> 
 }
 
 // `add_line` of a border: with pad it becomes text, under its own annotation.
-pub fn add_border(out: &mut [u8], lines: Lines, setup: Setup, annotation: u8, segs: &[u8]) -> Lines
+pub fn add_border(
+    out: &mut [u8],
+    lines: Lines,
+    options: RenderOptions,
+    annotation: u8,
+    segs: &[u8],
+) -> Lines
     requires { ⌜ InBounds lines × (length (now segs) < 2 ^ 20) ⌝ }
-    ensures { λ r. ⌜ Next lines r ⌝ }
-    ensures { λ r. ⌜ AddsBorder (now (out .entry)) lines setup annotation (now (segs .entry)) (now (out .exit)) r ⌝ }
+    ensures { λ r. ⌜ OneLineMore lines r ⌝ }
+    ensures { λ r. ⌜ AddsBorder (now (out .entry)) lines options annotation (now (segs .entry)) (now (out .exit)) r ⌝ }
 {
-    if setup.pad {
+    if options.pad {
         let n = drawn_len(segs, false);
         let line = new_line(lines.at);
         let text = push_drawn(out, line, annotation, segs, n, 0, false);
-        return end_line(out, lines, text, setup);
+        return add_text_line(out, lines, text, options);
     }
     put_border(out, lines, annotation, segs)
 }

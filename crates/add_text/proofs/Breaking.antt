@@ -16,7 +16,7 @@ use Rattle.block.specs.Flat.{Block, columns, walk, flushWord, newline, tab, bre
 use Rattle.lines.specs.Bridge.{num, modeNo}
 use Rattle.hard_wrap.specs.Hold.{setup}
 use Rattle.hard_wrap.specs.declared.line.Frame.{Frame}
-use Rattle.flush_word.specs.Keep.{Keeps, Small, Lent, Next, ResultIs, StaysSmall, FlushesWord}
+use Rattle.flush_word.specs.Keep.{Keeps, CountsWithinUnits, BuffersLongEnough, NextBlock, ResultIs, StaysWithinUnits, FlushesWord}
 use Rattle.flush_word.specs.declared.state.State.{State}
 use Rattle.flush_word.specs.declared.state.Flushed.{Flushed}
 use Rattle.flush_word.specs.declared.state.Flushed.the-variants.{Done, Narrow}
@@ -47,7 +47,7 @@ tag-normal e = omega arith
 
 -- Once the word is flushed there is room for the step of one more unit.
 pub flushed-ready : {frame : Frame} {used nlb nlt nwb nwt : ℕ} {f : Flushed} {d : State} (mlb mlt : ℕ) → f ≡ Done d → used < 4096
-    → Lent frame nlb nlt nwb nwt → mlb ≡ nlb → mlt ≡ nlt → StaysSmall frame used f → (Small frame d × Lent frame mlb mlt 4096 4096) × (d .used < 4096)
+    → BuffersLongEnough frame nlb nlt nwb nwt → mlb ≡ nlb → mlt ≡ nlt → StaysWithinUnits frame used f → (CountsWithinUnits frame d × BuffersLongEnough frame mlb mlt 4096 4096) × (d .used < 4096)
 flushed-ready mlb mlt e u l p q g =
     let s = rw e at g in (
       (
@@ -66,15 +66,15 @@ flushed-ready mlb mlt e u l p q g =
     )
 
 -- The numbers after that step.
-pub flushed-small : {frame : Frame} {ann : ℕ} {f : Flushed} {d r : State} (used : ℕ) → f ≡ Done d → ann < 256 → Small frame r × (r .used ≡ d .used + 1)
-    → StaysSmall frame used f → WalkedSmall frame (walkOf r ann) (used + 1)
+pub flushed-small : {frame : Frame} {ann : ℕ} {f : Flushed} {d r : State} (used : ℕ) → f ≡ Done d → ann < 256 → CountsWithinUnits frame r × (r .used ≡ d .used + 1)
+    → StaysWithinUnits frame used f → WalkedSmall frame (walkOf r ann) (used + 1)
 flushed-small used e a x g = let s = rw e at g in record { small = x .0; ann = a; used = omega (arith, s .1, x .1) }
 
 -- ---- steps after the word
 
 -- a step after a word that is flushed
 after-word : {o : Result Block} {d₀ : List ℕ} {base : ℕ} {d r : State} {ann a : ℕ} {lb lt wb wt out lb′ lt′ out′ : List ℕ} (g : Block → Block)
-    → Next o d₀ base d lb lt wb wt out → ann ≡ a → ((b : Block) → Keeps d₀ base b d lb lt wb wt out → Keeps d₀ base (g b) r lb′ lt′ wb wt out′)
+    → NextBlock o d₀ base d lb lt wb wt out → ann ≡ a → ((b : Block) → Keeps d₀ base b d lb lt wb wt out → Keeps d₀ base (g b) r lb′ lt′ wb wt out′)
     → NextWalk (o >>= λ b. good (walk (g b) a)) d₀ base (walkOf r ann) lb′ lt′ wb wt out′
 after-word {a = a} g n i k =
     record { walk = walk (g (n .block)) a; is = rw (n .is); keeps = record { keeps = k (n .block) (n .keeps); ann = i } }
@@ -82,7 +82,7 @@ after-word {a = a} g n i k =
 module _ (frame : Frame) (st : State) (f : Flushed) (lb lt wb wt out lb₁ lt₁ out₁ : List ℕ) (x : FlushesWord frame st lb lt wb wt out f lb₁ lt₁ out₁) where
   -- the word is flushed
   word-done : {d : State} {d₀ : List ℕ} {base : ℕ} {b : Block} → f ≡ Done d → Keeps d₀ base b st lb lt wb wt out
-      → Next (flushWord (setup frame) b) d₀ base d lb₁ lt₁ wb wt out₁
+      → NextBlock (flushWord (setup frame) b) d₀ base d lb₁ lt₁ wb wt out₁
   word-done {d₀ = d₀} {base = base} {b = b} e o = rw e at (x d₀ base b o)
 
   -- the word does not fit: TooNarrow

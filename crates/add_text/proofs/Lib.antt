@@ -1,6 +1,6 @@
 pub mod Wording
 pub mod Stopping
 pub mod Breaking
-pub mod Inking
+pub mod WordChars
 pub mod Walking
 pub mod Running

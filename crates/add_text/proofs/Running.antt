@@ -24,15 +24,15 @@ use Rattle.fields.specs.Job.{Mode, normal, pre, preWrap}
 use Rattle.fields.specs.declared.job.Setup.{Setup}
 use Rattle.block.specs.Tag.{tag, isPre}
 use Rattle.block.specs.Result.{good}
-use Rattle.block.specs.Flat.{char, Line, columns, pushChar, Block, withWord, withWrapped, walk, addInk, breakWord, step, steps}
+use Rattle.block.specs.Flat.{char, Line, columns, pushChar, Block, withWord, withWrapped, walk, addWordChar, breakWord, step, steps}
 use Rattle.block.specs.Flat as flat
-use Rattle.block.proofs.Neats.{NeatWalk, neat-ink}
+use Rattle.block.proofs.NonSpaces.{TrimsLeaveTextWalk, trims-word-char}
 use Rattle.block.proofs.Width.{columns-append}
 use Rattle.lines.specs.Bridge.{modeNo, num, text}
 use Rattle.hard_wrap.specs.Hold.{setup}
 use Rattle.hard_wrap.specs.declared.line.Frame.{Frame}
 use Rattle.flush_word.specs.declared.state.State.{State}
-use Rattle.add_text.specs.Chars.{Fits, PushesChars}
+use Rattle.add_text.specs.Chars.{AmongUnits, PushesChars}
 use Rattle.add_text.specs.Runs.{Keeping, Wrapping, Takes, AddsPlain}
 use Rattle.add_text.specs.declared.text.Run.{Run}
 use Rattle.add_text.specs.declared.walk.Walk.{Walk}
@@ -40,8 +40,8 @@ use Rattle.add_text.specs.declared.runs.Take.{Take}
 use Rattle.add_text.specs.declared.runs.Past.{Past}
 use Rattle.add_text.proofs.Breaking.{walkOf, tag-is}
 use Rattle.add_text.proofs.Wording.{keeps-same}
-use Rattle.add_text.proofs.Inking.{not-pre, is-pre, far, ink-on, ink-wraps}
-use Rattle.add_text.proofs.Walking.{step-on, char-ink, steps-on}
+use Rattle.add_text.proofs.WordChars.{not-pre, is-pre, far, word-char-on, word-char-wraps}
+use Rattle.add_text.proofs.Walking.{step-on, char-word-char, steps-on}
 
 module _ (s : Setup) (m : Mode) (main wrap : ℕ) where
   -- no plain character ends a word
@@ -50,11 +50,11 @@ module _ (s : Setup) (m : Mode) (main wrap : ℕ) where
   goes-on c b e = rw (plain-no-break c e)
 
   -- A plain character goes after those of the word.
-  plain-step : (c : ℕ) (v : flat.Walk) → isPlain false c ≡ true → step s m main wrap c v ≡ good (addInk s m wrap c (some (cols c)) v)
+  plain-step : (c : ℕ) (v : flat.Walk) → isPlain false c ≡ true → step s m main wrap c v ≡ good (addWordChar s m wrap c (some (cols c)) v)
   plain-step c v e =
       step-on s m main wrap c v (v .block) (goes-on c (v .block) e)
-      ∙ char-ink s m main wrap c v (eqb-false c 0x200B (plain-not-zwsp false c e)) (plain-takes-space c e)
-      ∙ ap (λ (o : Option ℕ). good (addInk s m wrap c o v)) (plain-width false c e)
+      ∙ char-word-char s m main wrap c v (eqb-false c 0x200B (plain-not-zwsp false c e)) (plain-takes-space c e)
+      ∙ ap (λ (o : Option ℕ). good (addWordChar s m wrap c o v)) (plain-width false c e)
 
   -- the characters pushed with the annotation in use
   abbrev pub pushed : flat.Walk → List ℕ → flat.Walk
@@ -73,20 +73,20 @@ module _ (s : Setup) (m : Mode) (main wrap : ℕ) where
       ∙ ap (λ (x : ℕ). walk (withWord (v .block .word ++ (char c (tag x m) ∷ [])) (v .block)) x) (sym a)
 
   stays-same : (c : ℕ) (v : flat.Walk) → (isPre m && ltb (s .width) (far v (cols c))) ≡ false
-      → addInk s m wrap c (some (cols c)) v ≡ pushed v (c ∷ [])
+      → addWordChar s m wrap c (some (cols c)) v ≡ pushed v (c ∷ [])
   unfolding pushChar
-  stays-same c v e = ink-on s m wrap c (cols c) v e
+  stays-same c v e = word-char-on s m wrap c (cols c) v e
 
-  ink-either : (c : ℕ) (v : flat.Walk) → v .ann ≡ wrap → v .block .preWrapped ≡ true → addInk s m wrap c (some (cols c)) v ≡ pushed v (c ∷ [])
-  unfolding addInk pushChar
-  ink-either c v a p =
+  word-char-either : (c : ℕ) (v : flat.Walk) → v .ann ≡ wrap → v .block .preWrapped ≡ true → addWordChar s m wrap c (some (cols c)) v ≡ pushed v (c ∷ [])
+  unfolding addWordChar pushChar
+  word-char-either c v a p =
       by-if (λ (x : flat.Walk). x ≡ pushed v (c ∷ [])) (isPre m && ltb (s .width) (far v (cols c))) (λ _. wraps-same c v a p) (λ _. refl)
 
   -- One plain character is pushed.
-  ink-stays : (c : ℕ) (v : flat.Walk) → Stays v (cols c) → addInk s m wrap c (some (cols c)) v ≡ pushed v (c ∷ [])
-  ink-stays c v st =
+  word-char-stays : (c : ℕ) (v : flat.Walk) → Stays v (cols c) → addWordChar s m wrap c (some (cols c)) v ≡ pushed v (c ∷ [])
+  word-char-stays c v st =
       ⊎-elim (λ e. stays-same c v (rw e))
-      (⊎-elim (λ le. stays-same c v (rw (le-ltb (s .width) (far v (cols c)) le, and-false (isPre m)))) (λ x. ink-either c v (x .0) (x .1))) st
+      (⊎-elim (λ le. stays-same c v (rw (le-ltb (s .width) (far v (cols c)) le, and-false (isPre m)))) (λ x. word-char-either c v (x .0) (x .1))) st
 
   stays-first : (c : ℕ) (cs : List ℕ) (v : flat.Walk) → Stays v (str-width (c ∷ cs)) → Stays v (cols c)
   unfolding str-width
@@ -116,16 +116,16 @@ module _ (s : Setup) (m : Mode) (main wrap : ℕ) where
   plain-steps [] zs v p st = ap (λ (x : flat.Walk). steps s m main wrap zs x) (sym (pushed-none v))
   plain-steps (c ∷ cs) zs v p st =
       steps-on s m main wrap c (c ∷ (cs ++ zs)) (cs ++ zs) v (pushed v (c ∷ [])) refl
-      (plain-step c v (p .0) ∙ ap good (ink-stays c v (stays-first c cs v st)))
+      (plain-step c v (p .0) ∙ ap good (word-char-stays c v (stays-first c cs v st)))
       ∙ plain-steps cs zs (pushed v (c ∷ [])) (p .1) (stays-next c cs v st)
       ∙ ap (λ (x : flat.Walk). steps s m main wrap zs x) (pushed-on c cs v)
 
-  -- They leave a neat block.
-  pub plain-neat : (cs : List ℕ) (v : flat.Walk) → AllPlain false cs → Stays v (str-width cs) → NeatWalk v → NeatWalk (pushed v cs)
-  plain-neat [] v p st h = subst NeatWalk (sym (pushed-none v)) h
-  plain-neat (c ∷ cs) v p st h =
-      let one = subst NeatWalk (ink-stays c v (stays-first c cs v st)) (neat-ink s m wrap c (some (cols c)) v (plain-takes-space c (p .0)) h) in
-      subst NeatWalk (pushed-on c cs v) (plain-neat cs (pushed v (c ∷ [])) (p .1) (stays-next c cs v st) one)
+  -- They keep `TrimsLeaveText`.
+  pub plain-trims : (cs : List ℕ) (v : flat.Walk) → AllPlain false cs → Stays v (str-width cs) → TrimsLeaveTextWalk v → TrimsLeaveTextWalk (pushed v cs)
+  plain-trims [] v p st h = subst TrimsLeaveTextWalk (sym (pushed-none v)) h
+  plain-trims (c ∷ cs) v p st h =
+      let one = subst TrimsLeaveTextWalk (word-char-stays c v (stays-first c cs v st)) (trims-word-char s m wrap c (some (cols c)) v (plain-takes-space c (p .0)) h) in
+      subst TrimsLeaveTextWalk (pushed-on c cs v) (plain-trims cs (pushed v (c ∷ [])) (p .1) (stays-next c cs v st) one)
 
   -- the walk with `pre_wrapped` set and the continued annotation
   abbrev pub wrapped : flat.Walk → flat.Walk
@@ -133,9 +133,9 @@ module _ (s : Setup) (m : Mode) (main wrap : ℕ) where
 
   -- past the width the first of them wraps
   first-wraps : (c : ℕ) (v : flat.Walk) → isPre m ≡ true → s .width ≤ far v 0 → isPlain false c ≡ true
-      → addInk s m wrap c (some (cols c)) v ≡ pushed (wrapped v) (c ∷ [])
+      → addWordChar s m wrap c (some (cols c)) v ≡ pushed (wrapped v) (c ∷ [])
   unfolding pushChar
-  first-wraps c v e h p = ink-wraps s m wrap c (cols c) v e (let i = plain-positive false c p in omega arith)
+  first-wraps c v e h p = word-char-wraps s m wrap c (cols c) v e (let i = plain-positive false c p in omega arith)
 
   -- Past the width, in Pre, plain characters are pushed with the continued annotation.
   pub plain-wraps : (cs zs : List ℕ) (v : flat.Walk) → 0 < length (textBytes cs) → isPre m ≡ true → s .width ≤ far v 0 → AllPlain false cs
@@ -148,14 +148,14 @@ module _ (s : Setup) (m : Mode) (main wrap : ℕ) where
       ∙ plain-steps cs zs (pushed (wrapped v) (c ∷ [])) (p .1) (inr (inr (refl, refl)))
       ∙ ap (λ (x : flat.Walk). steps s m main wrap zs x) (pushed-on c cs (wrapped v))
 
-  -- They leave a neat block too.
-  pub wraps-neat : (cs : List ℕ) (v : flat.Walk) → 0 < length (textBytes cs) → isPre m ≡ true → s .width ≤ far v 0 → AllPlain false cs → NeatWalk v
-      → NeatWalk (pushed (wrapped v) cs)
+  -- They keep `TrimsLeaveText` too.
+  pub wraps-trims : (cs : List ℕ) (v : flat.Walk) → 0 < length (textBytes cs) → isPre m ≡ true → s .width ≤ far v 0 → AllPlain false cs → TrimsLeaveTextWalk v
+      → TrimsLeaveTextWalk (pushed (wrapped v) cs)
   unfolding textBytes
-  wraps-neat [] v n e h p k = absurd (omega arith)
-  wraps-neat (c ∷ cs) v n e h p k =
-      let one = subst NeatWalk (first-wraps c v e h (p .0)) (neat-ink s m wrap c (some (cols c)) v (plain-takes-space c (p .0)) k) in
-      subst NeatWalk (pushed-on c cs (wrapped v)) (plain-neat cs (pushed (wrapped v) (c ∷ [])) (p .1) (inr (inr (refl, refl))) one)
+  wraps-trims [] v n e h p k = absurd (omega arith)
+  wraps-trims (c ∷ cs) v n e h p k =
+      let one = subst TrimsLeaveTextWalk (first-wraps c v e h (p .0)) (trims-word-char s m wrap c (some (cols c)) v (plain-takes-space c (p .0)) k) in
+      subst TrimsLeaveTextWalk (pushed-on c cs (wrapped v)) (plain-trims cs (pushed (wrapped v) (c ∷ [])) (p .1) (inr (inr (refl, refl))) one)
 
 -- ---- a part of a text
 
@@ -170,7 +170,7 @@ module _ (bs : List ℕ) (k len : ℕ) (h : k ≤ length bs) (le : len ≤ lengt
 
 -- What is pushed is among the units left.
 pub plain-fits : (st : State) (bs : List ℕ) (len n : ℕ) → len ≤ length bs → (len ≡ 0 → ⊥) → n ≤ len → st .used + length bs ≤ 4096
-    → Fits st (length (take len bs)) n
+    → AmongUnits st (length (take len bs)) n
 plain-fits st bs len n h pos c u =
     let e = length-take-le len bs h in
     record { some = omega arith; bytes = omega arith; units = omega arith }
@@ -204,7 +204,7 @@ module _ (frame : Frame) (run : Run) (w : Walk) (bs : List ℕ) (how : Take) (le
       ⊎-elim (λ no. inl (not-pre m (λ x. no (i .mode ∙ x)))) (λ in-width. inr (inl (omega (arith, h .count, h .cols)))) (keep .within) in
       let a = keep .ann ∙ k .ann in
       let x = push d₀ base (v .block) (r .cs) (tag (v .ann) m) lb lt out h (plain-scalars false (r .cs) (r .plain)) pushed-bytes c
-      (tag-is m ta a (i .mode)) (omega (arith, a, ann)) (plain-neat s m main wrap (r .cs) v (r .plain) stays (h .neat) .word) in
+      (tag-is m ta a (i .mode)) (omega (arith, a, ann)) (plain-trims s m main wrap (r .cs) v (r .plain) stays (h .trims) .word) in
       record {
         next = pushed s m main wrap v (r .cs);
         rest = zs;
@@ -229,7 +229,7 @@ module _ (frame : Frame) (run : Run) (w : Walk) (bs : List ℕ) (how : Take) (le
       let far-past : s .width ≤ far v 0 = omega (arith, past .past, h .count, h .cols) in
       let a = past .ann ∙ i .wrap-is in
       let x = push d₀ base (v .block) (r .cs) (tag wrap m) lb lt out h (plain-scalars false (r .cs) (r .plain)) pushed-bytes (r .columns)
-      (tag-is m ta a (i .mode)) (omega (arith, a, ann)) (wraps-neat s m main wrap (r .cs) v some-bytes p far-past (r .plain) (h .neat) .word) in
+      (tag-is m ta a (i .mode)) (omega (arith, a, ann)) (wraps-trims s m main wrap (r .cs) v some-bytes p far-past (r .plain) (h .trims) .word) in
       record {
         next = pushed s m main wrap (wrapped s m main wrap v) (r .cs);
         rest = zs;

@@ -13,15 +13,15 @@ use Rattle.characters.proofs.Tests.{by-if}
 use Rattle.fields.specs.declared.job.Setup.{Setup}
 use Rattle.block.specs.Tag.{Tag}
 use Rattle.block.specs.Flat.{Block, hasText, columns, onLine, forceFlushLine, flushLine, newline, tabLoop, tab}
-use Rattle.block.specs.Neat.{Neat}
-use Rattle.block.proofs.Neats.{neat-newline, neat-tab}
+use Rattle.block.specs.TrimsLeaveText.{TrimsLeaveText}
+use Rattle.block.proofs.NonSpaces.{trims-newline, trims-tab}
 use Rattle.lines.specs.Bridge.{num}
 use Rattle.lines.proofs.Kept.{Kept}
 use Rattle.hard_wrap.specs.Hold.{setup, Holds, Emptied}
 use Rattle.hard_wrap.specs.declared.line.Frame.{Frame}
 use Rattle.hard_wrap.specs.declared.line.Open.{Open}
 use Rattle.hard_wrap.proofs.Blanks.{holds-same}
-use Rattle.flush_word.specs.Keep.{Keeps, Small, noBlanks}
+use Rattle.flush_word.specs.Keep.{Keeps, CountsWithinUnits, noBlanks}
 use Rattle.flush_word.specs.declared.state.Blanks.{Blanks}
 use Rattle.flush_word.specs.declared.state.State.{State}
 use Rattle.add_text.specs.Chars.{TabFits, TabMoved, Turned, Turns, Tabbed}
@@ -30,8 +30,8 @@ use Rattle.add_text.specs.declared.stops.TabAt.{TabAt}
 -- ---- LF
 
 -- The numbers after LF.
-pub newline-small : (frame : Frame) (st : State) (line : Open) (p : Blanks) → Small frame st → st .used < 4096 → Emptied (st .line) line → p ≡ noBlanks
-    → Small frame (record { line = line; word = st .word; blanks = p; wrapped = false; used = st .used + 1 })
+pub newline-small : (frame : Frame) (st : State) (line : Open) (p : Blanks) → CountsWithinUnits frame st → st .used < 4096 → Emptied (st .line) line → p ≡ noBlanks
+    → CountsWithinUnits frame (record { line = line; word = st .word; blanks = p; wrapped = false; used = st .used + 1 })
 newline-small frame st line p h u x e =
     let none : p .count ≡ 0 = rw e in
     record {
@@ -60,7 +60,7 @@ newline-keeps s d₀ base b st line p used lb lt wb wt out lb′ lt′ out′ k 
       count = rw e;
       pends = rw e;
       wrapped = refl;
-      neat = neat-newline s b (k .neat);
+      trims = trims-newline s b (k .trims);
     }
 
 -- ---- the turns of a tab
@@ -129,8 +129,8 @@ kept-self : {b : Block} → Kept b b
 kept-self = record { spacetag = refl; word = refl; wslen = refl; preWrapped = refl }
 
 -- The numbers after a tab.
-pub tab-small : (frame : Frame) (st : State) (line : Open) → Small frame st → st .used < 4096 → Tabbed frame (st .line) line
-    → Small frame (record { line = line; word = st .word; blanks = st .blanks; wrapped = st .wrapped; used = st .used + 1 })
+pub tab-small : (frame : Frame) (st : State) (line : Open) → CountsWithinUnits frame st → st .used < 4096 → Tabbed frame (st .line) line
+    → CountsWithinUnits frame (record { line = line; word = st .word; blanks = st .blanks; wrapped = st .wrapped; used = st .used + 1 })
 tab-small frame st line h u x =
     record {
       used = omega arith;
@@ -162,7 +162,7 @@ tab-keeps s t d₀ base b st line used pos lb lt wb wt out lb′ lt′ out′ k 
       count = k .count ∙ sym (same .wslen);
       pends = rw (same .spacetag) (k .pends);
       wrapped = k .wrapped ∙ sym (same .preWrapped);
-      neat = neat-tab s t b (k .neat);
+      trims = trims-tab s t b (k .trims);
     }
 
 -- ---- the loop of a tab
@@ -171,7 +171,7 @@ tab-keeps s t d₀ base b st line used pos lb lt wb wt out lb′ lt′ out′ k 
 pub record Going (s : Setup) (d₀ : List ℕ) (base : ℕ) (b : Block) (t : Tag) (start : TabAt) (turns : ℕ) (cur : TabAt) (lb lt out : List ℕ) : Type 0 where
   pub next : Block
   pub holds : Holds d₀ base next (cur .line) lb lt out
-  pub neat : Neat next
+  pub trims : TrimsLeaveText next
   pub same : tabLoop 10 s t (start .pos) (start .one) b ≡ tabLoop turns s t (cur .pos) (cur .one) next
 
 -- The invariant of the loop: room for the turns that are left, and that they make the whole.
@@ -182,7 +182,7 @@ pub record Turning (frame : Frame) (lb₀ lt₀ : List ℕ) (tag : ℕ) (out₀ 
   pub store : length out ≡ length out₀
   pub n : cur .line .n ≤ cur .line .cols + (start .line .n - start .line .cols)
   pub place : cur .line .place + 65538 * turns ≤ start .line .place + 65538 * 10
-  pub going : (d₀ : List ℕ) (base : ℕ) (b : Block) (t : Tag) → Holds d₀ base b (start .line) lb₀ lt₀ out₀ → Neat b → tag ≡ num t → t .ann < 256
+  pub going : (d₀ : List ℕ) (base : ℕ) (b : Block) (t : Tag) → Holds d₀ base b (start .line) lb₀ lt₀ out₀ → TrimsLeaveText b → tag ≡ num t → t .ann < 256
       → Going (setup frame) d₀ base b t start turns cur lb lt out
 
 -- The room for the turns that are left after one.
@@ -211,7 +211,7 @@ module _ {s : Setup} {d₀ : List ℕ} {base : ℕ} {b : Block} {t : Tag} {start
       record {
         next = u .next;
         holds = u .holds;
-        neat = u .neat;
+        trims = u .trims;
         same = g .same ∙ tab-goes s t turns (cur .pos) (cur .one) (g .next) h ∙ u .same (turns - 1) e;
       }
 
@@ -237,7 +237,7 @@ turning {frame} {turns = turns} {cur = cur} {r = r} i h e p q o x f =
       place = omega (arith, i .place, x .place);
       going = λ d₀ base b t a k ta ann.
           let g = i .going d₀ base b t a k ta ann in
-          going-turn g h e (f d₀ base (g .next) t (g .holds) (g .neat) ta ann);
+          going-turn g h e (f d₀ base (g .next) t (g .holds) (g .trims) ta ann);
     }
 
 -- The numbers after the loop.

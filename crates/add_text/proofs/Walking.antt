@@ -21,18 +21,18 @@ use Rattle.fields.specs.declared.job.Setup.{Setup}
 use Rattle.fields.proofs.Texts.{rest}
 use Rattle.block.specs.Tag.{tag, keepsSpace}
 use Rattle.block.specs.Result.{good, tooNarrow, _>>=_}
-use Rattle.block.specs.Flat.{Block, walk, flushWord, newline, tab, keepBlank, collapse, addBlank, addInk, addChar, breakWord, step, steps, addText}
+use Rattle.block.specs.Flat.{Block, walk, flushWord, newline, tab, keepBlank, collapse, addBlank, addWordChar, addChar, breakWord, step, steps, addText}
 use Rattle.block.specs.Flat as flat
 use Rattle.lines.specs.Bridge.{modeNo}
 use Rattle.hard_wrap.specs.Hold.{setup}
 use Rattle.hard_wrap.specs.declared.line.Frame.{Frame}
-use Rattle.flush_word.specs.Keep.{Keeps, Small, Lent, StaysSmall, Next}
+use Rattle.flush_word.specs.Keep.{Keeps, CountsWithinUnits, BuffersLongEnough, StaysWithinUnits, NextBlock}
 use Rattle.flush_word.specs.declared.state.State.{State}
 use Rattle.flush_word.specs.declared.state.Flushed.{Flushed}
 use Rattle.flush_word.specs.declared.state.Flushed.the-variants.{Done}
 use Rattle.flush_word.specs.declared.state.Flushed.the-variants as flushed
 use Rattle.add_text.specs.Walks.{RunSmall, Ready, WalkedSmall, WalkSmall, CharIs, RunIs, WalkKeeps, NextWalk}
-use Rattle.add_text.specs.Walks.{AddsNewline, AddsTab, AddsKept, AddsCollapsed, AddsInk, BreaksWord, AddsBlank, PutsChar, AddsChar, AddsText}
+use Rattle.add_text.specs.Walks.{AddsNewline, AddsTab, AddsKept, AddsCollapsed, AddsWordChar, BreaksWord, AddsBlank, PutsChar, AddsChar, AddsText}
 use Rattle.add_text.specs.Runs.{AddsPlain}
 use Rattle.add_text.specs.declared.text.Run.{Run}
 use Rattle.add_text.specs.declared.walk.Walk.{Walk}
@@ -58,21 +58,21 @@ pub ready-one : {frame : Frame} {w : Walk} {m : ℕ} → Ready frame w m → Rea
 ready-one x = record { small = x .small; ann = x .ann; some = omega arith; units = omega (arith, x .some, x .units) }
 
 -- A flush leaves what is ready so.
-pub ready-next : (frame : Frame) (w : Walk) (m : ℕ) (f : Flushed) (st : State) → Ready frame w m → f ≡ Done st → StaysSmall frame (w .st .used) f
+pub ready-next : (frame : Frame) (w : Walk) (m : ℕ) (f : Flushed) (st : State) → Ready frame w m → f ≡ Done st → StaysWithinUnits frame (w .st .used) f
     → Ready frame (record { st = st; ann = w .ann }) m
 ready-next frame w m f st x e h =
-    let y : Small frame st × (st .used ≡ w .st .used) = rw e at h in
+    let y : CountsWithinUnits frame st × (st .used ≡ w .st .used) = rw e at h in
     record { small = y .0; ann = x .ann; some = x .some; units = omega (arith, y .1, x .units) }
 
 -- The numbers after a character that follows a flush.
-pub walk-next : (frame : Frame) (used m : ℕ) (f : Flushed) (st : State) (r : Walked) → f ≡ Done st → StaysSmall frame used f → WalkSmall frame (st .used + m) r
+pub walk-next : (frame : Frame) (used m : ℕ) (f : Flushed) (st : State) (r : Walked) → f ≡ Done st → StaysWithinUnits frame used f → WalkSmall frame (st .used + m) r
     → WalkSmall frame (used + m) r
 walk-next frame used m f st r e h x =
-    let y : Small frame st × (st .used ≡ used) = rw e at h in
+    let y : CountsWithinUnits frame st × (st .used ≡ used) = rw e at h in
     walk-more frame (st .used + m) (used + m) r (omega (arith, y .1)) x
 
 -- Buffers of the same lengths are lent as well.
-pub lent-same : {frame : Frame} {a b c d a′ b′ c′ d′ : ℕ} → Lent frame a b c d → a′ ≡ a → b′ ≡ b → c′ ≡ c → d′ ≡ d → Lent frame a′ b′ c′ d′
+pub lent-same : {frame : Frame} {a b c d a′ b′ c′ d′ : ℕ} → BuffersLongEnough frame a b c d → a′ ≡ a → b′ ≡ b → c′ ≡ c → d′ ≡ d → BuffersLongEnough frame a′ b′ c′ d′
 lent-same x p q r s =
     record {
       positive = x .positive;
@@ -85,7 +85,7 @@ lent-same x p q r s =
     }
 
 -- The buffers of the word are lent alone.
-pub lent-word : {frame : Frame} {a b c d : ℕ} → Lent frame a b c d → Lent frame 4608 4608 c d
+pub lent-word : {frame : Frame} {a b c d : ℕ} → BuffersLongEnough frame a b c d → BuffersLongEnough frame 4608 4608 c d
 lent-word x =
     record {
       positive = x .positive;
@@ -170,9 +170,9 @@ module _ (s : Setup) (m : Mode) (main wrap c : ℕ) (v : flat.Walk) where
   char-none e = rw (eq-eqb c 0x200B e)
 
   -- a character of a word
-  pub char-ink : (c ≡ 0x200B → ⊥) → alwaysTakesSpace c ≡ true → addChar s m main wrap c v ≡ good (addInk s m wrap c (widthOf c) v)
+  pub char-word-char : (c ≡ 0x200B → ⊥) → alwaysTakesSpace c ≡ true → addChar s m main wrap c v ≡ good (addWordChar s m wrap c (widthOf c) v)
   unfolding addChar
-  char-ink h e = rw (ne-eqb c 0x200B h, e)
+  char-word-char h e = rw (ne-eqb c 0x200B h, e)
 
   -- white space
   char-blank : (c ≡ 0x200B → ⊥) → alwaysTakesSpace c ≡ false → addChar s m main wrap c v ≡ addBlank s m main c v
@@ -185,12 +185,12 @@ module _ (frame : Frame) (run : Run) (w : Walk) (code : ℕ) (lb lt wb wt out : 
   puts-none e d₀ base v m main wrap k i = record { walk = v; is = char-none (setup frame) m main wrap code v e; keeps = k }
 
   -- A character of a word.
-  pub puts-ink : (part : List ℕ) (r : Walk) (wb′ wt′ : List ℕ) → (code ≡ 0x200B → ⊥) → alwaysTakesSpace code ≡ true
-      → AddsInk frame run w part code (widthOf code) wb wt r wb′ wt′ → PutsChar frame run w code lb lt wb wt out (On r) lb lt wb′ wt′ out
-  puts-ink part r wb′ wt′ h e f d₀ base v m main wrap k i =
+  pub puts-word-char : (part : List ℕ) (r : Walk) (wb′ wt′ : List ℕ) → (code ≡ 0x200B → ⊥) → alwaysTakesSpace code ≡ true
+      → AddsWordChar frame run w part code (widthOf code) wb wt r wb′ wt′ → PutsChar frame run w code lb lt wb wt out (On r) lb lt wb′ wt′ out
+  puts-word-char part r wb′ wt′ h e f d₀ base v m main wrap k i =
       record {
-        walk = addInk (setup frame) m wrap code (widthOf code) v;
-        is = char-ink (setup frame) m main wrap code v h e;
+        walk = addWordChar (setup frame) m wrap code (widthOf code) v;
+        is = char-word-char (setup frame) m main wrap code v h e;
         keeps = f d₀ base v m main wrap lb lt out k i refl e;
       }
 
@@ -220,7 +220,7 @@ module _ (frame : Frame) (run : Run) (w : Walk) (code : ℕ) (lb lt wb wt out : 
       → PutsChar frame run (record { st = st; ann = w .ann }) code lb₁ lt₁ wb wt out₁ r lb′ lt′ wb′ wt′ out′
       → AddsChar frame run w code lb lt wb wt out r lb′ lt′ wb′ wt′ out′
   adds-char st r lb′ lt′ wb′ wt′ out′ e p d₀ base v m main wrap k i =
-      let x : Next (breakWord (setup frame) m code (v .block)) d₀ base st lb₁ lt₁ wb wt out₁ = rw e at (breaks d₀ base (v .block) m main wrap (k .keeps) i) in
+      let x : NextBlock (breakWord (setup frame) m code (v .block)) d₀ base st lb₁ lt₁ wb wt out₁ = rw e at (breaks d₀ base (v .block) m main wrap (k .keeps) i) in
       rw (step-on (setup frame) m main wrap code v (x .block) (x .is))
       (p d₀ base (walk (x .block) (v .ann)) m main wrap (record { keeps = x .keeps; ann = k .ann }) i)
 
@@ -310,7 +310,7 @@ first-same : (run : Run) (m : Mode) (main wrap : ℕ) (b : Block) (p : Bool) →
 first-same run m main wrap b p e i = rw (e, i .wrap-is, i .main-is)
 
 -- The walk begins.
-pub walking-starts : (frame : Frame) (run : Run) (text lb lt wb wt out : List ℕ) (start : Walk) → Small frame (start .st) → RunSmall run
+pub walking-starts : (frame : Frame) (run : Run) (text lb lt wb wt out : List ℕ) (start : Walk) → CountsWithinUnits frame (start .st) → RunSmall run
     → start .ann ≡ (if start .st .wrapped then run .wrap else run .main) → Walking frame run text lb lt wb wt out start lb lt wb wt out start 0
 walking-starts frame run text lb lt wb wt out start h r e =
     record {

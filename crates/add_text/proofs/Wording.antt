@@ -17,8 +17,8 @@ use Rattle.characters.proofs.Tests.{by-if, below}
 use Rattle.characters.proofs.Tables.{dropped-is-white, white-columns, control-no-width, cols-le-two}
 use Rattle.block.specs.Tag.{Tag}
 use Rattle.block.specs.Flat.{char, name, Line, columns, hasText, pushChar, Block, withWord, withBlanks, withWrapped, keepBlank, collapse, addElement}
-use Rattle.block.specs.Neat.{Neat}
-use Rattle.block.proofs.Neats.{neat-blanks, neat-keep, neat-element, text-name}
+use Rattle.block.specs.TrimsLeaveText.{TrimsLeaveText}
+use Rattle.block.proofs.NonSpaces.{trims-blanks, trims-keep, trims-element, text-name}
 use Rattle.block.proofs.Width.{columns-append}
 use Rattle.lines.specs.Items.{Item, item, markTag, nameTag, items}
 use Rattle.lines.specs.Bridge.{num, tagged, enc, Valid, text}
@@ -27,9 +27,9 @@ use Rattle.lines.proofs.HardWrap.{columns-text}
 use Rattle.hard_wrap.specs.Hold.{Holds}
 use Rattle.hard_wrap.specs.declared.line.Frame.{Frame}
 use Rattle.hard_wrap.specs.declared.line.Open.{Open}
-use Rattle.flush_word.specs.Keep.{Keeps, Small}
+use Rattle.flush_word.specs.Keep.{Keeps, CountsWithinUnits}
 use Rattle.flush_word.specs.declared.state.State.{State}
-use Rattle.add_text.specs.Chars.{Fits, PushesChars, PushesWord, KeepsBlank, Collapses}
+use Rattle.add_text.specs.Chars.{AmongUnits, PushesChars, PushesWord, KeepsBlank, Collapses}
 use Rattle.add_text.specs.Walks.{AddsElement}
 use Rattle.block.proofs.Same.{cols-of}
 
@@ -89,8 +89,8 @@ withPending st count tag used =
     record { line = st .line; word = st .word; blanks = record { count = count; tag = tag }; wrapped = st .wrapped; used = used }
 
 -- The numbers after characters of a word.
-pub small-push : (frame : Frame) (st : State) (m cols n : ℕ) (wrapped : Bool) → n ≡ st .word .n + m → Small frame st → Fits st m cols
-    → Small frame (withChars st n (st .word .cols + cols) wrapped (st .used + m))
+pub small-push : (frame : Frame) (st : State) (m cols n : ℕ) (wrapped : Bool) → n ≡ st .word .n + m → CountsWithinUnits frame st → AmongUnits st m cols
+    → CountsWithinUnits frame (withChars st n (st .word .cols + cols) wrapped (st .used + m))
 small-push frame st m cols n wrapped e h f =
     record {
       used = f .units;
@@ -104,8 +104,8 @@ small-push frame st m cols n wrapped e h f =
     }
 
 -- The numbers after blanks of no more columns than bytes.
-pub small-pend : (frame : Frame) (st : State) (m count tag : ℕ) → count ≤ st .blanks .count + m → st .used + m ≤ 4096 → Small frame st
-    → Small frame (withPending st count tag (st .used + m))
+pub small-pend : (frame : Frame) (st : State) (m count tag : ℕ) → count ≤ st .blanks .count + m → st .used + m ≤ 4096 → CountsWithinUnits frame st
+    → CountsWithinUnits frame (withPending st count tag (st .used + m))
 small-pend frame st m count tag e u h =
     record {
       used = u;
@@ -119,8 +119,8 @@ small-pend frame st m count tag e u h =
     }
 
 -- The numbers after a name of m bytes.
-pub small-name : (frame : Frame) (st : State) (m n : ℕ) → n ≡ st .word .n + 1 + m → st .used + 1 + m ≤ 4096 → Small frame st
-    → Small frame (withEnd st n (st .word .cols) (st .word .text) (st .used + 1 + m))
+pub small-name : (frame : Frame) (st : State) (m n : ℕ) → n ≡ st .word .n + 1 + m → st .used + 1 + m ≤ 4096 → CountsWithinUnits frame st
+    → CountsWithinUnits frame (withEnd st n (st .word .cols) (st .word .text) (st .used + 1 + m))
 small-name frame st m n e u h =
     record {
       used = u;
@@ -168,7 +168,7 @@ pushes st part n tag wrapped wb wt wb′ wt′ k used pos e d₀ base b cs t lb 
       count = h .count;
       pends = h .pends;
       wrapped = refl;
-      neat = record { line = h .neat .line; word = nw };
+      trims = record { line = h .trims .line; word = nw };
     }
 
 -- One character is put so.
@@ -194,7 +194,7 @@ adds-name st n wb wt wb₁ wt₁ wb′ wt′ j k used e f d₀ base b lb lt out 
       count = h .count;
       pends = h .pends;
       wrapped = h .wrapped;
-      neat = neat-element n b (h .neat);
+      trims = trims-element n b (h .trims);
     }
 
 -- blanks that pend
@@ -211,7 +211,7 @@ pends-now {b = b} {t = t} n count used e pos ta ann h =
       count = e;
       pends = (omega arith, ta, ann);
       wrapped = h .wrapped;
-      neat = neat-blanks n (some t) b (h .neat);
+      trims = trims-blanks n (some t) b (h .trims);
     }
 
 module _ (n c : ℕ) (t : Tag) (b : Block) where
@@ -228,7 +228,7 @@ pub keeps-joins : (st : State) (part : List ℕ) (n tag : ℕ) (wb wt : List ℕ
     → PushesWord st part n tag wb wt r wb′ wt′ → KeepsBlank st part n tag wb wt r wb′ wt′
 keeps-joins st part n tag wb wt r wb′ wt′ e f d₀ base b c t lb lt out h s p w pos ta ann =
     let q = keep-joins n c t b (sym (h .text) ∙ e) in
-    let k : Neat (withWord (pushChar (b .word) c t) b) = subst Neat q (neat-keep (some n) c t b (h .neat)) in
+    let k : TrimsLeaveText (withWord (pushChar (b .word) c t) b) = subst TrimsLeaveText q (trims-keep (some n) c t b (h .trims)) in
     keeps-same (sym q) (f d₀ base b c t lb lt out h s p w ta ann (k .word))
 
 -- A blank that is kept pends after a word without text.

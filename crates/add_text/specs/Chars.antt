@@ -12,7 +12,7 @@ use Rattle.characters.proofs.RoundTrip.{Scalars}
 use Rattle.fields.specs.declared.job.Setup.{Setup}
 use Rattle.block.specs.Tag.{Tag}
 use Rattle.block.specs.Flat.{Block, pushChar, withWord, withWrapped, newline, tabLoop, tab, keepBlank, collapse}
-use Rattle.block.specs.Neat.{Neat, NeatWord}
+use Rattle.block.specs.TrimsLeaveText.{TrimsLeaveText, TextHasNonSpace}
 use Rattle.lines.specs.Bridge.{num, text}
 use Rattle.hard_wrap.specs.Hold.{setup, Holds}
 use Rattle.hard_wrap.specs.declared.line.Frame.{Frame}
@@ -57,13 +57,13 @@ pub record TabMoved (frame : Frame) (c r : TabAt) : Type 0 where
 pub record Turned (s : Setup) (d₀ : List ℕ) (base : ℕ) (b : Block) (t : Tag) (c r : TabAt) (lb lt out : List ℕ) : Type 0 where
   pub next : Block
   pub holds : Holds d₀ base next (r .line) lb lt out
-  pub neat : Neat next
+  pub trims : TrimsLeaveText next
   pub same : (fuel : ℕ) → (eqb (c .pos % 8) 0 && c .one) ≡ false
       → tabLoop (suc fuel) s t (c .pos) (c .one) b ≡ tabLoop fuel s t (r .pos) (r .one) next
 
 abbrev pub Turns : Frame → TabAt → ℕ → List ℕ → List ℕ → List ℕ → TabAt → List ℕ → List ℕ → List ℕ → Type 0
 Turns frame c tag lb lt out r lb′ lt′ out′ =
-    (d₀ : List ℕ) (base : ℕ) (b : Block) (t : Tag) → Holds d₀ base b (c .line) lb lt out → Neat b → tag ≡ num t → t .ann < 256
+    (d₀ : List ℕ) (base : ℕ) (b : Block) (t : Tag) → Holds d₀ base b (c .line) lb lt out → TrimsLeaveText b → tag ≡ num t → t .ann < 256
     → Turned (setup frame) d₀ base b t c r lb′ lt′ out′
 
 -- after all turns
@@ -75,7 +75,7 @@ pub record Tabbed (frame : Frame) (st r : Open) : Type 0 where
 
 abbrev pub Tabs : Frame → TabAt → ℕ → List ℕ → List ℕ → List ℕ → Open → List ℕ → List ℕ → List ℕ → Type 0
 Tabs frame c tag lb lt out r lb′ lt′ out′ =
-    (d₀ : List ℕ) (base : ℕ) (b : Block) (t : Tag) → Holds d₀ base b (c .line) lb lt out → Neat b → tag ≡ num t → t .ann < 256
+    (d₀ : List ℕ) (base : ℕ) (b : Block) (t : Tag) → Holds d₀ base b (c .line) lb lt out → TrimsLeaveText b → tag ≡ num t → t .ann < 256
     → Holds d₀ base (tabLoop 10 (setup frame) t (c .pos) (c .one) b) r lb′ lt′ out′
 
 abbrev pub Tabbing : Frame → State → ℕ → List ℕ → List ℕ → List ℕ → State → List ℕ → List ℕ → List ℕ → Type 0
@@ -86,7 +86,7 @@ Tabbing frame st tag lb lt out r lb′ lt′ out′ =
 -- ---- a character of a word, and blanks
 
 -- characters of m bytes, which are among the units left, have no more columns than bytes
-pub record Fits (st : State) (m cols : ℕ) : Type 0 where
+pub record AmongUnits (st : State) (m cols : ℕ) : Type 0 where
   pub some : 0 < m
   pub bytes : cols ≤ m
   pub units : st .used + m ≤ 4096
@@ -95,14 +95,14 @@ pub record Fits (st : State) (m cols : ℕ) : Type 0 where
 abbrev pub PushesChars : State → List ℕ → ℕ → ℕ → Bool → List ℕ → List ℕ → State → List ℕ → List ℕ → Type 0
 PushesChars st part n tag wrapped wb wt r wb′ wt′ =
     (d₀ : List ℕ) (base : ℕ) (b : Block) (cs : List ℕ) (t : Tag) (lb lt out : List ℕ) → Keeps d₀ base b st lb lt wb wt out
-    → Scalars cs → part ≡ textBytes cs → n ≡ str-width cs → tag ≡ num t → t .ann < 256 → NeatWord (b .word ++ text t cs)
+    → Scalars cs → part ≡ textBytes cs → n ≡ str-width cs → tag ≡ num t → t .ann < 256 → TextHasNonSpace (b .word ++ text t cs)
     → Keeps d₀ base (withWord (b .word ++ text t cs) (withWrapped wrapped b)) r lb lt wb′ wt′ out
 
 -- one character
 abbrev pub PushesWord : State → List ℕ → ℕ → ℕ → List ℕ → List ℕ → State → List ℕ → List ℕ → Type 0
 PushesWord st part n tag wb wt r wb′ wt′ =
     (d₀ : List ℕ) (base : ℕ) (b : Block) (c : ℕ) (t : Tag) (lb lt out : List ℕ) → Keeps d₀ base b st lb lt wb wt out
-    → Scalar c → part ≡ utf8 c → widthOf c ≡ some n → tag ≡ num t → t .ann < 256 → NeatWord (pushChar (b .word) c t)
+    → Scalar c → part ≡ utf8 c → widthOf c ≡ some n → tag ≡ num t → t .ann < 256 → TextHasNonSpace (pushChar (b .word) c t)
     → Keeps d₀ base (withWord (pushChar (b .word) c t) b) r lb lt wb′ wt′ out
 
 -- a blank that is kept takes a column

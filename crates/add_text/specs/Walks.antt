@@ -11,13 +11,13 @@ use Rattle.characters.specs.Whitespace.{alwaysTakesSpace}
 use Rattle.characters.specs.Utf8.{utf8, Scalar, chars}
 use Rattle.fields.specs.Job.{Mode, normal, pre, preWrap}
 use Rattle.block.specs.Result.{Result, good, tooNarrow, _>>=_}
-use Rattle.block.specs.Flat.{Block, walk, flushWord, newline, tab, keepBlank, collapse, addBlank, addInk, addChar, breakWord, step, addText, addElement}
+use Rattle.block.specs.Flat.{Block, walk, flushWord, newline, tab, keepBlank, collapse, addBlank, addWordChar, addChar, breakWord, step, addText, addElement}
 use Rattle.block.specs.Flat as flat
 use Rattle.block.specs.Tag.{tag}
 use Rattle.lines.specs.Bridge.{modeNo}
 use Rattle.hard_wrap.specs.Hold.{setup}
 use Rattle.hard_wrap.specs.declared.line.Frame.{Frame}
-use Rattle.flush_word.specs.Keep.{Keeps, Small, ResultIs}
+use Rattle.flush_word.specs.Keep.{Keeps, CountsWithinUnits, ResultIs}
 use Rattle.flush_word.specs.declared.state.State.{State}
 use Rattle.flush_word.specs.declared.state.Flushed.{Flushed}
 use Rattle.flush_word.specs.declared.state.Flushed.the-variants.{Done}
@@ -38,14 +38,14 @@ pub record RunSmall (run : Run) : Type 0 where
 
 -- the state and the annotation before a character of m bytes
 pub record Ready (frame : Frame) (w : Walk) (m : ℕ) : Type 0 where
-  pub small : Small frame (w .st)
+  pub small : CountsWithinUnits frame (w .st)
   pub ann : w .ann < 256
   pub some : 0 < m
   pub units : w .st .used + m ≤ 4096
 
 -- and after it
 pub record WalkedSmall (frame : Frame) (w : Walk) (most : ℕ) : Type 0 where
-  pub small : Small frame (w .st)
+  pub small : CountsWithinUnits frame (w .st)
   pub ann : w .ann < 256
   pub used : w .st .used ≤ most
 
@@ -112,11 +112,11 @@ AddsCollapsed w r =
     → WalkKeeps d₀ base (walk (collapse (tag (v .ann) normal) (v .block)) (v .ann)) r lb lt wb wt out
 
 -- a character of a word, of so many columns if it has any count
-abbrev pub AddsInk : Frame → Run → Walk → List ℕ → ℕ → Option ℕ → List ℕ → List ℕ → Walk → List ℕ → List ℕ → Type 0
-AddsInk frame run w part code o wb wt r wb′ wt′ =
+abbrev pub AddsWordChar : Frame → Run → Walk → List ℕ → ℕ → Option ℕ → List ℕ → List ℕ → Walk → List ℕ → List ℕ → Type 0
+AddsWordChar frame run w part code o wb wt r wb′ wt′ =
     (d₀ : List ℕ) (base : ℕ) (v : flat.Walk) (m : Mode) (main wrap : ℕ) (lb lt out : List ℕ) → WalkKeeps d₀ base v w lb lt wb wt out
     → RunIs run m main wrap → widthOf code ≡ o → alwaysTakesSpace code ≡ true
-    → WalkKeeps d₀ base (addInk (setup frame) m wrap code o v) r lb lt wb′ wt′ out
+    → WalkKeeps d₀ base (addWordChar (setup frame) m wrap code o v) r lb lt wb′ wt′ out
 
 -- a break point
 abbrev pub BreaksWord : Frame → Run → State → ℕ → List ℕ → List ℕ → List ℕ → List ℕ → List ℕ → Flushed → List ℕ → List ℕ → List ℕ → Type 0
@@ -150,7 +150,7 @@ AddsChar frame run w code lb lt wb wt out r lb′ lt′ wb′ wt′ out′ =
 
 -- the numbers after a text
 abbrev pub TextSmall : Frame → ℕ → Flushed → Type 0
-TextSmall frame used (Done r) = Small frame r × (r .used ≤ used)
+TextSmall frame used (Done r) = CountsWithinUnits frame r × (r .used ≤ used)
 TextSmall frame used flushed.Narrow = Unit {0}
 
 -- `add_text`

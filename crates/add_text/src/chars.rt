@@ -7,8 +7,8 @@ use lines::buffer::push_text;
 ghost use mathlib.Core.Path.{_≡_};
 ghost use Prim.Native.Nat.{_+_, _<_, _≤_};
 ghost use lib.ListN.{length};
-ghost use Rattle.flush_word.specs.Keep.{Small, Lent};
-ghost use Rattle.add_text.specs.Chars.{Fits, PushesChars, PushesWord, KeepsBlank, Collapses};
+ghost use Rattle.flush_word.specs.Keep.{CountsWithinUnits, BuffersLongEnough};
+ghost use Rattle.add_text.specs.Chars.{AmongUnits, PushesChars, PushesWord, KeepsBlank, Collapses};
 
 // Characters of one tag after the word's (`push_char` for each of them); `pre_wrapped` is as said.
 pub fn push_chars(
@@ -21,9 +21,9 @@ pub fn push_chars(
     tag: u32,
     wrapped: bool,
 ) -> State
-    requires { ⌜ Small frame st × Lent frame 4608 4608 (length (now wb)) (length (now wt)) ⌝ }
-    requires { ⌜ Fits st (length (now part)) cols ⌝ }
-    ensures { λ r. ⌜ Small frame r × (r .used ≡ st .used + length (now (part .entry))) ⌝ }
+    requires { ⌜ CountsWithinUnits frame st × BuffersLongEnough frame 4608 4608 (length (now wb)) (length (now wt)) ⌝ }
+    requires { ⌜ AmongUnits st (length (now part)) cols ⌝ }
+    ensures { λ r. ⌜ CountsWithinUnits frame r × (r .used ≡ st .used + length (now (part .entry))) ⌝ }
     ensures { λ r. ⌜ PushesChars st (now (part .entry)) cols tag wrapped (now (wb .entry)) (now (wt .entry)) r (now (wb .exit)) (now (wt .exit)) ⌝ }
 {
     let line = st.line;
@@ -54,9 +54,9 @@ pub fn push_word(
     cols: usize,
     tag: u32,
 ) -> State
-    requires { ⌜ Small frame st × Lent frame 4608 4608 (length (now wb)) (length (now wt)) ⌝ }
-    requires { ⌜ Fits st (length (now part)) cols ⌝ }
-    ensures { λ r. ⌜ Small frame r × (r .used ≡ st .used + length (now (part .entry))) ⌝ }
+    requires { ⌜ CountsWithinUnits frame st × BuffersLongEnough frame 4608 4608 (length (now wb)) (length (now wt)) ⌝ }
+    requires { ⌜ AmongUnits st (length (now part)) cols ⌝ }
+    ensures { λ r. ⌜ CountsWithinUnits frame r × (r .used ≡ st .used + length (now (part .entry))) ⌝ }
     ensures { λ r. ⌜ PushesWord st (now (part .entry)) cols tag (now (wb .entry)) (now (wt .entry)) r (now (wb .exit)) (now (wt .exit)) ⌝ }
 {
     push_chars(frame, st, wb, wt, part, cols, tag, st.wrapped)
@@ -72,9 +72,9 @@ pub fn keep_blank(
     cols: usize,
     tag: u32,
 ) -> State
-    requires { ⌜ Small frame st × Lent frame 4608 4608 (length (now wb)) (length (now wt)) ⌝ }
-    requires { ⌜ Fits st (length (now part)) cols ⌝ }
-    ensures { λ r. ⌜ Small frame r × (r .used ≡ st .used + length (now (part .entry))) ⌝ }
+    requires { ⌜ CountsWithinUnits frame st × BuffersLongEnough frame 4608 4608 (length (now wb)) (length (now wt)) ⌝ }
+    requires { ⌜ AmongUnits st (length (now part)) cols ⌝ }
+    ensures { λ r. ⌜ CountsWithinUnits frame r × (r .used ≡ st .used + length (now (part .entry))) ⌝ }
     ensures { λ r. ⌜ KeepsBlank st (now (part .entry)) cols tag (now (wb .entry)) (now (wt .entry)) r (now (wb .exit)) (now (wt .exit)) ⌝ }
 {
     let word = st.word;
@@ -98,8 +98,8 @@ pub fn keep_blank(
 
 // A blank in Normal: it counts once, and only if the line has columns and no blank is pending.
 pub fn collapse(frame: Frame, st: State, tag: u32) -> State
-    requires { ⌜ Small frame st × (st .used < 4096) ⌝ }
-    ensures { λ r. ⌜ Small frame r × (r .used ≤ st .used + 1) ⌝ }
+    requires { ⌜ CountsWithinUnits frame st × (st .used < 4096) ⌝ }
+    ensures { λ r. ⌜ CountsWithinUnits frame r × (r .used ≤ st .used + 1) ⌝ }
     ensures { λ r. ⌜ Collapses st tag r ⌝ }
 {
     let line = st.line;

@@ -11,7 +11,7 @@ use hard_wrap::numbers::less;
 ghost use mathlib.Core.Path.{_≡_};
 ghost use Prim.Native.Nat.{_+_, _<_, _≤_};
 ghost use lib.ListN.{length};
-ghost use Rattle.flush_word.specs.Keep.{Small, Lent};
+ghost use Rattle.flush_word.specs.Keep.{CountsWithinUnits, BuffersLongEnough};
 ghost use Rattle.add_text.specs.Walks.{RunSmall, WalkedSmall};
 ghost use Rattle.add_text.specs.Runs.{Takes, AddsPlain};
 
@@ -68,7 +68,7 @@ pub fn add_plain(
     wb: &mut [u8],
     wt: &mut [u32],
 ) -> Past
-    requires { ⌜ WalkedSmall frame w (w .st .used) × Lent frame 4608 4608 (length (now wb)) (length (now wt)) ⌝ }
+    requires { ⌜ WalkedSmall frame w (w .st .used) × BuffersLongEnough frame 4608 4608 (length (now wb)) (length (now wt)) ⌝ }
     requires { ⌜ RunSmall run × (w .st .used + length (now text) ≤ 4096) ⌝ }
     ensures { λ r. ⌜ (r .len ≤ length (now (text .entry))) × WalkedSmall frame (r .w) (w .st .used + r .len) ⌝ }
     ensures { λ r. ⌜ AddsPlain frame run w (now (text .entry)) (now (wb .entry)) (now (wt .entry)) r (now (wb .exit)) (now (wt .exit)) ⌝ }

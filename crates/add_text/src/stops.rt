@@ -4,22 +4,22 @@ use flush_word::state::no_blanks;
 use hard_wrap::flush::flush_line;
 use hard_wrap::line::Frame;
 use hard_wrap::line::Open;
-use hard_wrap::line::close_line;
+use hard_wrap::line::force_flush_line;
 use lines::buffer::push_byte;
 ghost use mathlib.Core.Path.{_≡_};
 ghost use Prim.Native.Nat.{_+_, _<_};
 ghost use lib.ListN.{length};
-ghost use Rattle.flush_word.specs.Keep.{Small, Lent};
+ghost use Rattle.flush_word.specs.Keep.{CountsWithinUnits, BuffersLongEnough};
 ghost use Rattle.add_text.specs.Chars.{Newlines, TabFits, TabMoved, Turns, Tabbed, Tabs, Tabbing};
 
 // '\n': the line is closed, even an empty one, and pending blanks are gone.
 pub fn newline(frame: Frame, st: State, lb: &mut [u8], lt: &mut [u32], out: &mut [u8]) -> State
-    requires { ⌜ Small frame st × Lent frame (length (now lb)) (length (now lt)) 4096 4096 ⌝ }
+    requires { ⌜ CountsWithinUnits frame st × BuffersLongEnough frame (length (now lb)) (length (now lt)) 4096 4096 ⌝ }
     requires { ⌜ st .used < 4096 ⌝ }
-    ensures { λ r. ⌜ Small frame r × (r .used ≡ st .used + 1) ⌝ }
+    ensures { λ r. ⌜ CountsWithinUnits frame r × (r .used ≡ st .used + 1) ⌝ }
     ensures { λ r. ⌜ Newlines frame st (now (lb .entry)) (now (lt .entry)) (now (out .entry)) r (now (lb .exit)) (now (lt .exit)) (now (out .exit)) ⌝ }
 {
-    let line = close_line(frame, st.line, lb, lt, out);
+    let line = force_flush_line(frame, st.line, lb, lt, out);
     let word = st.word;
     let blanks = no_blanks();
     State {
@@ -110,9 +110,9 @@ pub fn tab(
     tag: u32,
     out: &mut [u8],
 ) -> State
-    requires { ⌜ Small frame st × Lent frame (length (now lb)) (length (now lt)) 4096 4096 ⌝ }
+    requires { ⌜ CountsWithinUnits frame st × BuffersLongEnough frame (length (now lb)) (length (now lt)) 4096 4096 ⌝ }
     requires { ⌜ st .used < 4096 ⌝ }
-    ensures { λ r. ⌜ Small frame r × (r .used ≡ st .used + 1) ⌝ }
+    ensures { λ r. ⌜ CountsWithinUnits frame r × (r .used ≡ st .used + 1) ⌝ }
     ensures { λ r. ⌜ Tabbing frame st tag (now (lb .entry)) (now (lt .entry)) (now (out .entry)) r (now (lb .exit)) (now (lt .exit)) (now (out .exit)) ⌝ }
 {
     let line = st.line;

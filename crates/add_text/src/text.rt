@@ -17,7 +17,7 @@ ghost use mathlib.Core.Path.{_≡_};
 ghost use Prim.Native.Nat.{_+_, _<_, _≤_};
 ghost use lib.ListN.{length};
 ghost use Rattle.characters.specs.If.{if_then_else_};
-ghost use Rattle.flush_word.specs.Keep.{Small, Lent};
+ghost use Rattle.flush_word.specs.Keep.{CountsWithinUnits, BuffersLongEnough};
 ghost use Rattle.add_text.specs.Walks.{RunSmall, TextSmall, AddsText, AddsElement};
 
 // What a T field says of its text: the mode, 0 to 2, and the two annotations.
@@ -49,7 +49,7 @@ pub fn add_text(
     wt: &mut [u32],
     out: &mut [u8],
 ) -> Flushed
-    requires { ⌜ Small frame st × Lent frame (length (now lb)) (length (now lt)) (length (now wb)) (length (now wt)) ⌝ }
+    requires { ⌜ CountsWithinUnits frame st × BuffersLongEnough frame (length (now lb)) (length (now lt)) (length (now wb)) (length (now wt)) ⌝ }
     requires { ⌜ RunSmall run × (st .used + length (now text) ≤ 4096) ⌝ }
     ensures { λ r. ⌜ TextSmall frame (st .used + length (now (text .entry))) r ⌝ }
     ensures { λ r. ⌜ AddsText frame run st (now (text .entry))
@@ -91,9 +91,9 @@ pub fn add_text(
 
 // `add_element`: a name goes to the word still open, or to the next one.
 pub fn add_element(frame: Frame, st: State, wb: &mut [u8], wt: &mut [u32], name: &[u8]) -> State
-    requires { ⌜ Small frame st × Lent frame 4608 4608 (length (now wb)) (length (now wt)) ⌝ }
+    requires { ⌜ CountsWithinUnits frame st × BuffersLongEnough frame 4608 4608 (length (now wb)) (length (now wt)) ⌝ }
     requires { ⌜ st .used + 1 + length (now name) ≤ 4096 ⌝ }
-    ensures { λ r. ⌜ Small frame r × (r .used ≡ st .used + 1 + length (now (name .entry))) ⌝ }
+    ensures { λ r. ⌜ CountsWithinUnits frame r × (r .used ≡ st .used + 1 + length (now (name .entry))) ⌝ }
     ensures { λ r. ⌜ AddsElement st (now (name .entry)) (now (wb .entry)) (now (wt .entry)) r (now (wb .exit)) (now (wt .exit)) ⌝ }
 {
     let line = st.line;

@@ -20,10 +20,10 @@ ghost use mathlib.Core.Option.{some};
 ghost use Prim.Native.Nat.{_+_, _*_, _<_, _≤_};
 ghost use lib.ListN.{length};
 ghost use Rattle.characters.specs.Columns.{widthOf};
-ghost use Rattle.flush_word.specs.Keep.{Small, Lent, StaysSmall};
-ghost use Rattle.add_text.specs.Chars.{Fits};
+ghost use Rattle.flush_word.specs.Keep.{CountsWithinUnits, BuffersLongEnough, StaysWithinUnits};
+ghost use Rattle.add_text.specs.Chars.{AmongUnits};
 ghost use Rattle.add_text.specs.Walks.{RunSmall, Ready, WalkedSmall, WalkSmall, CharIs, wrappedOn};
-ghost use Rattle.add_text.specs.Walks.{AddsNewline, AddsTab, AddsKept, AddsCollapsed, AddsInk, BreaksWord, AddsBlank, PutsChar, AddsChar};
+ghost use Rattle.add_text.specs.Walks.{AddsNewline, AddsTab, AddsKept, AddsCollapsed, AddsWordChar, BreaksWord, AddsBlank, PutsChar, AddsChar};
 
 // The state, and the annotation in use (the local `tag` of `add_text`).
 pub struct Walk {
@@ -55,7 +55,7 @@ fn add_newline(
     wt: &[u32],
     out: &mut [u8],
 ) -> Walked
-    requires { ⌜ Small frame st × Lent frame (length (now lb)) (length (now lt)) (length (now wb)) (length (now wt)) ⌝ }
+    requires { ⌜ CountsWithinUnits frame st × BuffersLongEnough frame (length (now lb)) (length (now lt)) (length (now wb)) (length (now wt)) ⌝ }
     requires { ⌜ RunSmall run × (st .used < 4096) ⌝ }
     ensures { λ r. ⌜ WalkSmall frame (st .used + 1) r ⌝ }
     ensures { λ r. ⌜ AddsNewline frame run st
@@ -86,7 +86,7 @@ fn add_tab(
     wt: &[u32],
     out: &mut [u8],
 ) -> Walked
-    requires { ⌜ Ready frame w 1 × Lent frame (length (now lb)) (length (now lt)) (length (now wb)) (length (now wt)) ⌝ }
+    requires { ⌜ Ready frame w 1 × BuffersLongEnough frame (length (now lb)) (length (now lt)) (length (now wb)) (length (now wt)) ⌝ }
     requires { ⌜ mode < 3 ⌝ }
     ensures { λ r. ⌜ WalkSmall frame (w .st .used + 1) r ⌝ }
     ensures { λ r. ⌜ AddsTab frame w mode (now (lb .entry)) (now (lt .entry)) (now (wb .entry)) (now (wt .entry)) (now (out .entry)) r (now (lb .exit)) (now (lt .exit)) (now (out .exit)) ⌝ }
@@ -114,7 +114,7 @@ fn add_kept(
     part: &[u8],
     code: u32,
 ) -> Walk
-    requires { ⌜ Ready frame w (length (now part)) × Lent frame 4608 4608 (length (now wb)) (length (now wt)) ⌝ }
+    requires { ⌜ Ready frame w (length (now part)) × BuffersLongEnough frame 4608 4608 (length (now wb)) (length (now wt)) ⌝ }
     requires { ⌜ CharIs (now part) code × (mode < 3) ⌝ }
     ensures { λ r. ⌜ WalkedSmall frame r (w .st .used + length (now (part .entry))) ⌝ }
     ensures { λ r. ⌜ AddsKept w mode (now (part .entry)) code (now (wb .entry)) (now (wt .entry)) r (now (wb .exit)) (now (wt .exit)) ⌝ }
@@ -156,10 +156,10 @@ fn add_cols(
     code: u32,
     cols: usize,
 ) -> Walk
-    requires { ⌜ Ready frame w (length (now part)) × Lent frame 4608 4608 (length (now wb)) (length (now wt)) ⌝ }
-    requires { ⌜ CharIs (now part) code × RunSmall run × Fits (w .st) (length (now part)) cols ⌝ }
+    requires { ⌜ Ready frame w (length (now part)) × BuffersLongEnough frame 4608 4608 (length (now wb)) (length (now wt)) ⌝ }
+    requires { ⌜ CharIs (now part) code × RunSmall run × AmongUnits (w .st) (length (now part)) cols ⌝ }
     ensures { λ r. ⌜ WalkedSmall frame r (w .st .used + length (now (part .entry))) ⌝ }
-    ensures { λ r. ⌜ AddsInk frame run w (now (part .entry)) code (some cols) (now (wb .entry)) (now (wt .entry)) r (now (wb .exit)) (now (wt .exit)) ⌝ }
+    ensures { λ r. ⌜ AddsWordChar frame run w (now (part .entry)) code (some cols) (now (wb .entry)) (now (wt .entry)) r (now (wb .exit)) (now (wt .exit)) ⌝ }
 {
     let st = w.st;
     let ann = w.ann;
@@ -196,7 +196,7 @@ fn wrap_on(st: State) -> State
 }
 
 // A character of a word; a control is dropped.
-fn add_ink(
+fn add_word_char(
     frame: Frame,
     run: Run,
     w: Walk,
@@ -205,10 +205,10 @@ fn add_ink(
     part: &[u8],
     code: u32,
 ) -> Walk
-    requires { ⌜ Ready frame w (length (now part)) × Lent frame 4608 4608 (length (now wb)) (length (now wt)) ⌝ }
+    requires { ⌜ Ready frame w (length (now part)) × BuffersLongEnough frame 4608 4608 (length (now wb)) (length (now wt)) ⌝ }
     requires { ⌜ CharIs (now part) code × RunSmall run ⌝ }
     ensures { λ r. ⌜ WalkedSmall frame r (w .st .used + length (now (part .entry))) ⌝ }
-    ensures { λ r. ⌜ AddsInk frame run w (now (part .entry)) code (widthOf code) (now (wb .entry)) (now (wt .entry)) r (now (wb .exit)) (now (wt .exit)) ⌝ }
+    ensures { λ r. ⌜ AddsWordChar frame run w (now (part .entry)) code (widthOf code) (now (wb .entry)) (now (wt .entry)) r (now (wb .exit)) (now (wt .exit)) ⌝ }
 {
     let k = columns_of(code);
     match k {
@@ -230,8 +230,8 @@ fn break_word(
     wt: &[u32],
     out: &mut [u8],
 ) -> Flushed
-    requires { ⌜ Small frame st × Lent frame (length (now lb)) (length (now lt)) (length (now wb)) (length (now wt)) ⌝ }
-    ensures { λ r. ⌜ StaysSmall frame (st .used) r ⌝ }
+    requires { ⌜ CountsWithinUnits frame st × BuffersLongEnough frame (length (now lb)) (length (now lt)) (length (now wb)) (length (now wt)) ⌝ }
+    ensures { λ r. ⌜ StaysWithinUnits frame (st .used) r ⌝ }
     ensures { λ r. ⌜ BreaksWord frame run st code
         (now (lb .entry)) (now (lt .entry)) (now (wb .entry)) (now (wt .entry)) (now (out .entry)) r
         (now (lb .exit)) (now (lt .exit)) (now (out .exit)) ⌝ }
@@ -262,7 +262,7 @@ fn add_blank(
     wt: &mut [u32],
     out: &mut [u8],
 ) -> Walked
-    requires { ⌜ Ready frame w (length (now part)) × Lent frame (length (now lb)) (length (now lt)) (length (now wb)) (length (now wt)) ⌝ }
+    requires { ⌜ Ready frame w (length (now part)) × BuffersLongEnough frame (length (now lb)) (length (now lt)) (length (now wb)) (length (now wt)) ⌝ }
     requires { ⌜ CharIs (now part) code × RunSmall run ⌝ }
     ensures { λ r. ⌜ WalkSmall frame (w .st .used + length (now (part .entry))) r ⌝ }
     ensures { λ r. ⌜ AddsBlank frame run w code
@@ -294,7 +294,7 @@ fn put_char(
     wt: &mut [u32],
     out: &mut [u8],
 ) -> Walked
-    requires { ⌜ Ready frame w (length (now part)) × Lent frame (length (now lb)) (length (now lt)) (length (now wb)) (length (now wt)) ⌝ }
+    requires { ⌜ Ready frame w (length (now part)) × BuffersLongEnough frame (length (now lb)) (length (now lt)) (length (now wb)) (length (now wt)) ⌝ }
     requires { ⌜ CharIs (now part) code × RunSmall run ⌝ }
     ensures { λ r. ⌜ WalkSmall frame (w .st .used + length (now (part .entry))) r ⌝ }
     ensures { λ r. ⌜ PutsChar frame run w code
@@ -305,7 +305,7 @@ fn put_char(
         return Walked::On(w);
     }
     if always_takes_space(code) {
-        return Walked::On(add_ink(frame, run, w, wb, wt, part, code));
+        return Walked::On(add_word_char(frame, run, w, wb, wt, part, code));
     }
     add_blank(frame, run, w, code, part, lb, lt, wb, wt, out)
 }
@@ -323,7 +323,7 @@ pub fn add_char(
     wt: &mut [u32],
     out: &mut [u8],
 ) -> Walked
-    requires { ⌜ Ready frame w (length (now part)) × Lent frame (length (now lb)) (length (now lt)) (length (now wb)) (length (now wt)) ⌝ }
+    requires { ⌜ Ready frame w (length (now part)) × BuffersLongEnough frame (length (now lb)) (length (now lt)) (length (now wb)) (length (now wt)) ⌝ }
     requires { ⌜ CharIs (now part) code × RunSmall run ⌝ }
     ensures { λ r. ⌜ WalkSmall frame (w .st .used + length (now (part .entry))) r ⌝ }
     ensures { λ r. ⌜ AddsChar frame run w code

@@ -16,7 +16,7 @@ use Rattle.fields.specs.declared.field.Field.the-variants.{At, Broken, End}
 use Rattle.fields.proofs.Fields.{field-is}
 use Rattle.fields.proofs.Parts.{part-length, part-cons}
 use Rattle.borders.specs.BorderHoriz.{merge-from, merge-from-below, merge-from-above}
-use Rattle.borders.specs.Buffer.{Holds}
+use Rattle.borders.specs.Buffer.{HoldsBorder}
 use Rattle.rows.specs.SubRenderer.{top}
 use Rattle.rows.specs.Columns.{Column, column, joinAt, totalWidth, topsOf, bottomsOf}
 use Rattle.append_columns.specs.Cells.{LinesAt, bottomFrom, columnAt, ColumnsAre, CellsAre}
@@ -87,7 +87,7 @@ joining-end join widths n k pos b goal h m inv =
 -- ---- a first border
 
 -- A border in a buffer is there.
-pub holds-same : (buffer : List ℕ) (n : ℕ) → n ≤ length buffer → Holds buffer n (take n buffer)
+pub holds-same : (buffer : List ℕ) (n : ℕ) → n ≤ length buffer → HoldsBorder buffer n (take n buffer)
 holds-same buffer n h = record { inside = h; segments = refl }
 
 -- the lines of a body
@@ -115,7 +115,7 @@ body-first body l st nx ls e r =
 -- A first border is merged.
 pub top-merged : (buffer : List ℕ) (n : ℕ) (body : List ℕ) (pos letter start next : ℕ) (buffer′ : List ℕ) (r : ℕ)
     → fieldAt 0 (drop 0 body) ≡ At letter start next → letter ≡ 0x42 → start < next
-    → Holds buffer′ r (merge-from-below (take n buffer) (part (start + 1) next body) pos) → MergesTop buffer n body pos buffer′ r
+    → HoldsBorder buffer′ r (merge-from-below (take n buffer) (part (start + 1) next body) pos) → MergesTop buffer n body pos buffer′ r
 top-merged buffer n body pos l st nx buffer′ r e k h d ls x =
     let t = body-first body l st nx ls e x in
     let (a, f) = top-of l (part st nx body) (t .one) (t .more) (line-of l (part st nx body) (t .one) (t .reads)) k in
@@ -222,7 +222,7 @@ bottoms-cons pos k cols b h = rw (drop-cons cols k (column 0 [] []) h)
 -- One column's border is merged.
 pub bottoming-on : (s ends stops widths : List ℕ) (n : ℕ) (b₀ : List ℕ) (k pos from to w : ℕ) (b : List ℕ) (buffer : List ℕ) (r : ℕ) → k < n
     → Bottoming s ends stops widths n b₀ k pos b → to ≡ getD stops k 0 → from ≡ bottomFrom (getD ends k 0) to → w ≡ getD widths k 0
-    → Holds buffer r (merge-from-above b (part from to s) pos) → Bottoming s ends stops widths n b₀ (k + 1) (pos + w + 1) (take r buffer)
+    → HoldsBorder buffer r (merge-from-above b (part from to s) pos) → Bottoming s ends stops widths n b₀ (k + 1) (pos + w + 1) (take r buffer)
 bottoming-on s ends stops widths n b₀ k pos from to w b buffer r h inv t f x d ats cols c =
     let one : k + 1 ≡ suc k = omega arith in
     let i = c .each k h in

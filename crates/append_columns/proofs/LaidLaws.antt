@@ -18,14 +18,14 @@ use Rattle.fields.specs.declared.answer.Rendered.{Rendered}
 use Rattle.fields.proofs.Sets.{wrote-fits}
 use Rattle.fields.proofs.Readings.{read-size}
 use Rattle.borders.specs.BorderHoriz.{new-type, stretch-to, join-above, join-below}
-use Rattle.borders.specs.Buffer.{Holds}
-use Rattle.rows.specs.declared.Setup.{Setup}
+use Rattle.borders.specs.Buffer.{HoldsBorder}
+use Rattle.rows.specs.declared.RenderOptions.{RenderOptions}
 use Rattle.rows.specs.SubRenderer.{padded, onLast, isBorder, endsInBorder, ifDrawn, anyStartsBorder, noBorderAbove}
 use Rattle.rows.specs.Columns.{joinAt, totalWidth, topsOf, bottomsOf, joinedAbove, joinedBelow, borderAbove, borderBelow, columnOf, columnLines, columnsHeight, columnsRow, flatColumns}
 use Rattle.rows.specs.Answer.{finished, columnsAnswer}
 use Rattle.rows.proofs.Refusing.{sheet-read, sheet-few, cells-read, cellsNumber, columns-refused, cells-pass}
 use Rattle.rows.proofs.Columns.{columns-flat}
-use Rattle.add_line.specs.Emitted.{Emitted, noLines, InBounds, Next, PutsBorder, AddsBorder, CopiesLines, Closes}
+use Rattle.add_line.specs.Emitted.{Emitted, noLines, InBounds, OneLineMore, PutsBorder, AddsBorder, CopiesLines, Closes}
 use Rattle.add_line.specs.declared.lines.Lines.{Lines}
 use Rattle.add_line.proofs.Emitting.{emitted-none}
 use Rattle.append_columns.specs.Cells.{LinesAt, LastLine, none-there, last-there, FindsLast, Sits, CellsAre, PlacesAll, Starts}
@@ -52,7 +52,7 @@ tail-of a segs = let e : length (a ∷ segs) - 1 ≡ length segs = omega arith i
 
 -- Copied, joined below and stretched.
 pub above : (content b b₁ b₂ b₃ ws : List ℕ) (len joined w n : ℕ) → Wrote b 0 (take (length content - 1) (drop 1 content)) b₁ len → length content ≤ length b
-    → Holds b₂ joined (joinAt join-below 0 ws (take len b₁)) → w ≡ totalWidth ws - 1 → Holds b₃ n (stretch-to (take joined b₂) w)
+    → HoldsBorder b₂ joined (joinAt join-below 0 ws (take len b₁)) → w ≡ totalWidth ws - 1 → HoldsBorder b₃ n (stretch-to (take joined b₂) w)
     → Above content ws b₃ n
 unfolding joinedAbove
 above content b b₁ b₂ b₃ ws len joined w n wrote few j wide s a segs e =
@@ -94,7 +94,7 @@ puts-none out out′ content cells widths p r n collapse h cs a segs cells-are w
 pub line-same : (p : Lines) → NextOrSame p p
 line-same p = record { count = omega arith; on = omega arith; at = omega arith }
 
-pub line-next : (p r : Lines) → Next p r → NextOrSame p r
+pub line-next : (p r : Lines) → OneLineMore p r → NextOrSame p r
 line-next p r n =
     let one : r .count - p .count ≡ 1 = omega (arith, n .count) in
     record { count = omega (arith, n .count); on = omega (arith, n .count); at = rw one (omega (arith, n .at)) }
@@ -106,18 +106,18 @@ abbrev pub Below : Bool → List ℕ → List ℕ → ℕ → Type 0
 Below joined ws b n = take n b ≡ joinedBelow joined ws
 
 -- New, and joined above if there is a border above the row.
-pub below-joined : (joined : Bool) (b₁ b₂ b ws : List ℕ) (w n m k : ℕ) → joined ≡ true → w ≡ totalWidth ws - 1 → Holds b₁ n (new-type w 0)
-    → Holds b₂ m (joinAt join-above 0 ws (take n b₁)) → b ≡ b₂ → k ≡ m → Below joined ws b k
+pub below-joined : (joined : Bool) (b₁ b₂ b ws : List ℕ) (w n m k : ℕ) → joined ≡ true → w ≡ totalWidth ws - 1 → HoldsBorder b₁ n (new-type w 0)
+    → HoldsBorder b₂ m (joinAt join-above 0 ws (take n b₁)) → b ≡ b₂ → k ≡ m → Below joined ws b k
 unfolding joinedBelow
 below-joined joined b₁ b₂ b ws w n m k on wide new j same count = rw (on, same, count) (j .segments ∙ rw (new .segments, wide))
 
-pub below-plain : (joined : Bool) (b₁ b ws : List ℕ) (w n k : ℕ) → joined ≡ false → w ≡ totalWidth ws - 1 → Holds b₁ n (new-type w 0)
+pub below-plain : (joined : Bool) (b₁ b ws : List ℕ) (w n k : ℕ) → joined ≡ false → w ≡ totalWidth ws - 1 → HoldsBorder b₁ n (new-type w 0)
     → b ≡ b₁ → k ≡ n → Below joined ws b k
 unfolding joinedBelow
 below-plain joined b₁ b ws w n k off wide new same count = rw (off, same, count) (new .segments ∙ rw wide)
 
 -- The last borders of the cells are merged into it, and it is added.
-pub adds-next : (out out′ cells ends stops widths b b′ : List ℕ) (p r : Lines) (s : Setup) (joined : Bool) (n k all : ℕ) → Below joined (take n widths) b k
+pub adds-next : (out out′ cells ends stops widths b b′ : List ℕ) (p r : Lines) (s : RenderOptions) (joined : Bool) (n k all : ℕ) → Below joined (take n widths) b k
     → MergesBottoms b k cells ends stops widths n b′ all → AddsBorder out p s (s .annotation) (take all b′) out′ r
     → AddsNext out p s joined cells ends stops widths n out′ r
 unfolding borderBelow
@@ -224,7 +224,7 @@ pub sits-sat : (cells : List ℕ) (end stop width pattern : ℕ) → Sits cells 
 sits-sat cells end stop width pattern s = record { order = s .order; inside = s .inside; size = s .size; narrow = s .narrow }
 
 -- The old lines, the row and, with borders, the border below it.
-pub lays-drawn : (s : Setup) (sheet cells store store₁ store₂ store₃ store′ ats ends stops widths : List ℕ) (collapse joined : Bool) (last n : ℕ) (p q r : Lines)
+pub lays-drawn : (s : RenderOptions) (sheet cells store store₁ store₂ store₃ store′ ats ends stops widths : List ℕ) (collapse joined : Bool) (last n : ℕ) (p q r : Lines)
     (done : Rendered) → s .borders ≡ true → PlacesAll cells collapse ats ends stops widths n → AddsOld store sheet cells collapse last joined widths n store₁ p
     → AddsRow store₁ p s cells ats ends stops widths n store₂ q → AddsNext store₂ q s joined cells ends stops widths n store₃ r → Closes r store₃ done store′
     → Lays s sheet cells collapse last joined store done store′
@@ -244,7 +244,7 @@ lays-drawn s sheet cells store store₁ store₂ store₃ store′ ats ends stop
     closes store (flatColumns s old cs collapse) (rw f at e)
 
 -- Without borders there is none below.
-pub lays-plain : (s : Setup) (sheet cells store store₁ store₂ store′ ats ends stops widths : List ℕ) (collapse joined : Bool) (last n : ℕ) (p q : Lines)
+pub lays-plain : (s : RenderOptions) (sheet cells store store₁ store₂ store′ ats ends stops widths : List ℕ) (collapse joined : Bool) (last n : ℕ) (p q : Lines)
     (done : Rendered) → s .borders ≡ false → PlacesAll cells collapse ats ends stops widths n → AddsOld store sheet cells collapse last joined widths n store₁ p
     → AddsRow store₁ p s cells ats ends stops widths n store₂ q → Closes q store₂ done store′
     → Lays s sheet cells collapse last joined store done store′
@@ -306,7 +306,7 @@ cells-are : (cells : List ℕ) (cs : List Cell) → readCells cells ≡ some cs 
 cells-are cells cs e ok = let r = cells-read cells cs e in record { reads = r .cells; few = r .few; readable = ok }
 
 -- The places that the call is laid with.
-pub places-ready : (n : ℕ) (s : Setup) (sheet cells : List ℕ) (last : ℕ) (joined : Bool) → n ≡ cellsNumber s sheet cells → n ≡ 0 → last ≤ length sheet
+pub places-ready : (n : ℕ) (s : RenderOptions) (sheet cells : List ℕ) (last : ℕ) (joined : Bool) → n ≡ cellsNumber s sheet cells → n ≡ 0 → last ≤ length sheet
     → length sheet ≤ last + 65538 → (5 ≤ length sheet → 5 ≤ last) → (last < length sheet → last + 3 ≤ length sheet) → KindAt sheet last joined
     → (5 ≤ last) × (last ≤ length sheet) × (joined ≡ true → last + 3 ≤ length sheet) × (length sheet ≤ last + 65538)
 places-ready n s sheet cells last joined e zero low near from room k =
@@ -324,7 +324,7 @@ fields-before sheet old last (last-there h before l e behind reads) n =
     omega (arith, read-size readLine (raws (part 5 last sheet)) before (behind .reads), ap length e ∙ length-append before (l ∷ []))
 
 -- The numbers of its lines and cells.
-pub sizes-ready : (n : ℕ) (s : Setup) (sheet cells : List ℕ) (last : ℕ) → n ≡ cellsNumber s sheet cells → n ≡ 0 → FindsLast sheet 5 (length sheet) last
+pub sizes-ready : (n : ℕ) (s : RenderOptions) (sheet cells : List ℕ) (last : ℕ) → n ≡ cellsNumber s sheet cells → n ≡ 0 → FindsLast sheet 5 (length sheet) last
     → getD sheet 3 0 < 256 → getD sheet 4 0 < 256
     → (length (raws (drop 5 sheet)) ≤ 65535) × (length (raws (part 5 last sheet)) ≤ 65535) × (length (raws cells) ≤ 16)
 sizes-ready n s sheet cells last e zero finds high low =
@@ -338,7 +338,7 @@ sizes-ready n s sheet cells last e zero finds high low =
 -- ---- the answers
 
 -- A number of 1 to 3 refuses the call.
-pub call-refused : (n : ℕ) (s : Setup) (sheet cells store store′ : List ℕ) (collapse : Bool) (done : Rendered) → n ≡ cellsNumber s sheet cells → (n ≡ 0 → ⊥)
+pub call-refused : (n : ℕ) (s : RenderOptions) (sheet cells store store′ : List ℕ) (collapse : Bool) (done : Rendered) → n ≡ cellsNumber s sheet cells → (n ≡ 0 → ⊥)
     → rendered done store′ ≡ give (refused n) store → rendered done store′ ≡ columnsAnswer s sheet cells collapse store
 unfolding columnsAnswer
 call-refused n s sheet cells store store′ collapse done e h says =
@@ -351,7 +351,7 @@ unfolding noBorderAbove
 six old cs collapse on off starts = rw (on, off, starts)
 
 -- Refusal 6: collapsing, no border above, and a cell that starts with one.
-pub call-six : (n : ℕ) (s : Setup) (sheet cells store store′ : List ℕ) (collapse joined starts : Bool) (last : ℕ) (done : Rendered) → n ≡ cellsNumber s sheet cells
+pub call-six : (n : ℕ) (s : RenderOptions) (sheet cells store store′ : List ℕ) (collapse joined starts : Bool) (last : ℕ) (done : Rendered) → n ≡ cellsNumber s sheet cells
     → n ≡ 0 → FindsLast sheet 5 (length sheet) last → KindAt sheet last joined → Starts cells starts → collapse ≡ true → joined ≡ false → starts ≡ true
     → rendered done store′ ≡ give (refused 6) store → rendered done store′ ≡ columnsAnswer s sheet cells collapse store
 unfolding columnsAnswer
@@ -390,7 +390,7 @@ not-six cells old cs collapse joined are kind (border-above on) =
 not-six cells old cs collapse joined are kind (not-collapsing off) = rw off
 
 -- PAST THE REFUSALS THE CALL ANSWERS WHAT IS LAID.
-pub call-laid : (n : ℕ) (s : Setup) (sheet cells store store′ : List ℕ) (collapse joined : Bool) (last : ℕ) (done : Rendered) → n ≡ cellsNumber s sheet cells
+pub call-laid : (n : ℕ) (s : RenderOptions) (sheet cells store store′ : List ℕ) (collapse joined : Bool) (last : ℕ) (done : Rendered) → n ≡ cellsNumber s sheet cells
     → n ≡ 0 → FindsLast sheet 5 (length sheet) last → KindAt sheet last joined → Allowed cells collapse joined
     → Lays s sheet cells collapse last joined store done store′ → rendered done store′ ≡ columnsAnswer s sheet cells collapse store
 unfolding columnsAnswer

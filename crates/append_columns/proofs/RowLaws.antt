@@ -24,20 +24,20 @@ use Rattle.borders.specs.BorderHoriz.{drawn}
 use Rattle.borders.proofs.Drawing.{drawn-most}
 use Rattle.fields.proofs.Back.{Every}
 use Rattle.fields.proofs.Parts.{part-length}
-use Rattle.rows.specs.declared.Setup.{Setup}
+use Rattle.rows.specs.declared.RenderOptions.{RenderOptions}
 use Rattle.rows.specs.TaggedLine.{WellFormedPiece, push-str, push-ws, addPieces}
 use Rattle.rows.specs.SubRenderer.{padded, max, edge, rest}
 use Rattle.rows.specs.Columns.{Column, column, addColumn, columnLine, nextColumn, columnsHeight, columnLines}
 use Rattle.rows.proofs.Lines.{readable-formed, consume-pieces, pieces-width, spaces-formed, spaces-width}
-use Rattle.tagged_line.specs.Held.{Within, Grown, newLine, Held, Pushes, PushesSpaces, Draws}
+use Rattle.tagged_line.specs.Held.{Within, LineGrown, newLine, Held, Pushes, PushesSpaces, Draws}
 use Rattle.tagged_line.specs.Pieces.{PiecesOf, AddsPieces}
 use Rattle.tagged_line.specs.declared.line.Line.{Line}
 use Rattle.tagged_line.proofs.Laying.{grown-more}
-use Rattle.add_line.specs.Emitted.{InBounds, Next, Fits, Emitted, AddsText as AddsLine}
+use Rattle.add_line.specs.Emitted.{InBounds, OneLineMore, LineBegun, Emitted, AddsCellText as AddsLine}
 use Rattle.add_line.specs.declared.lines.Lines.{Lines}
 use Rattle.add_line.proofs.Emitting.{held-new}
 use Rattle.append_columns.specs.Cells.{bottomFrom, Sits, AllNear, ColumnIs, ColumnsAre, columnAt}
-use Rattle.append_columns.specs.Row.{AddsText, AddsColumn, AddsEdge, AddsRowLine, GoesOn, Moves, AllMove, AllGoOn, Left, AddsRow}
+use Rattle.append_columns.specs.Row.{AddsCellText, AddsColumn, AddsEdge, AddsRowLine, GoesOn, Moves, AllMove, AllGoOn, LinesLeft, AddsRow}
 use Rattle.append_columns.proofs.CellLaws.{FoundAt, part-drop, first-line, no-lines, line-there, line-broken, line-end}
 
 -- ---- a text of a cell
@@ -60,13 +60,13 @@ module _ (out mid : List ℕ) (p q : Line) (content : List ℕ) (used : ℕ) (f 
       omega (arith, u, h .cols, f ps e ok st l h .cols, pieces-width true true l ps (h .valid) (all-formed ps ok))
 
   -- A text that is narrower than its cell is filled with spaces.
-  pub text-filled : (out′ : List ℕ) (r : Line) (s : Setup) (w : ℕ) → PushesSpaces mid q (w - used) (s .annotation) out′ r → AddsText out p s content w out′ r
+  pub text-filled : (out′ : List ℕ) (r : Line) (s : RenderOptions) (w : ℕ) → PushesSpaces mid q (w - used) (s .annotation) out′ r → AddsCellText out p s content w out′ r
   unfolding push-ws
   text-filled out′ r s w g ps e ok st l h =
       rw (consume-pieces l ps, sym (used-width ps e ok st l h)) (g st (addPieces true true l ps) (f ps e ok st l h))
 
   -- Any other stays as it is.
-  pub text-full : (s : Setup) (w : ℕ) → w ≤ used → AddsText out p s content w mid q
+  pub text-full : (s : RenderOptions) (w : ℕ) → w ≤ used → AddsCellText out p s content w mid q
   unfolding push-str
   text-full s w k ps e ok st l h =
       let z : w - width ps ≡ 0 = omega (arith, k, used-width ps e ok st l h) in
@@ -95,7 +95,7 @@ unfolding text-width str-width
 bar-width = rw (bar-chars, bar-cols)
 
 -- With borders the bar is pushed.
-pub edge-bar : (out out′ : List ℕ) (p r : Line) (s : Setup) → s .borders ≡ true → Pushes out p (s .annotation) bar 1 out′ r → AddsEdge out p s out′ r
+pub edge-bar : (out out′ : List ℕ) (p r : Line) (s : RenderOptions) → s .borders ≡ true → Pushes out p (s .annotation) bar 1 out′ r → AddsEdge out p s out′ r
 edge-bar out out′ p r s b f st l h = rw (b, bar-edge) (f st l h (0x2502 ∷ [], bar-chars) bar-width)
 
 space-edge : utf8 0x20 ≡ 0x20 ∷ []
@@ -103,7 +103,7 @@ unfolding utf8
 space-edge = refl
 
 -- Without, a space.
-pub edge-space : (out out′ : List ℕ) (p r : Line) (s : Setup) → s .borders ≡ false → Pushes out p (s .annotation) (0x20 ∷ []) 1 out′ r
+pub edge-space : (out out′ : List ℕ) (p r : Line) (s : RenderOptions) → s .borders ≡ false → Pushes out p (s .annotation) (0x20 ∷ []) 1 out′ r
     → AddsEdge out p s out′ r
 edge-space out out′ p r s b f st l h = rw (b, space-edge) (f st l h (spaces-formed 1) (spaces-width 1))
 
@@ -141,12 +141,12 @@ bottom-well p cells end stop w n from room sits e =
 
 -- What it adds to a line.
 pub bottom-grown : (p r : Line) (cells : List ℕ) (end stop w n from : ℕ) → Sits cells end stop w n → from ≡ bottomFrom end stop
-    → Grown p r (4 + 4 * length (part from stop cells) + 4 * w) → Grown p r 264000
+    → LineGrown p r (4 + 4 * length (part from stop cells) + 4 * w) → LineGrown p r 264000
 bottom-grown p r cells end stop w n from sits e g =
     grown-more p r (4 + 4 * length (part from stop cells) + 4 * w) 264000 g (omega (arith, bottom-size cells end stop w n from sits e, sits .narrow))
 
 -- What is drawn at the end of a cell's lines.
-pub column-bottom : (out out′ : List ℕ) (p r : Line) (s : Setup) (cells : List ℕ) (at end stop w from : ℕ) → end ≤ at → from ≡ bottomFrom end stop
+pub column-bottom : (out out′ : List ℕ) (p r : Line) (s : RenderOptions) (cells : List ℕ) (at end stop w from : ℕ) → end ≤ at → from ≡ bottomFrom end stop
     → Draws out p (s .annotation) (part from stop cells) w true out′ r → AddsColumn out p s cells at end stop w out′ r
 column-bottom out out′ p r s cells at end stop w from h e f c is st l held =
     let z : c .lines ≡ [] = no-lines cells at end (c .lines) h (is .lines-are) in
@@ -196,10 +196,10 @@ pub segments-short : (s : List ℕ) (at letter start next : ℕ) → FoundAt s a
 segments-short s at letter start next f h = omega (arith, part-length (start + 1) next s (f .inside))
 
 -- a cell's next line is the field that is found at its cursor
-module _ (out : List ℕ) (p : Line) (s : Setup) (cells : List ℕ) (at end stop w letter start next : ℕ) (h : at < end)
+module _ (out : List ℕ) (p : Line) (s : RenderOptions) (cells : List ℕ) (at end stop w letter start next : ℕ) (h : at < end)
     (e : fieldAt at (drop at cells) ≡ At letter start next) where
   -- A text line.
-  pub column-text : (out′ : List ℕ) (r : Line) → letter ≡ 0x4C → AddsText out p s (part start next cells) w out′ r
+  pub column-text : (out′ : List ℕ) (r : Line) → letter ≡ 0x4C → AddsCellText out p s (part start next cells) w out′ r
       → AddsColumn out p s cells at end stop w out′ r
   unfolding readableLines all
   column-text out′ r el f c is st l held =
@@ -230,34 +230,34 @@ module _ (out : List ℕ) (p : Line) (s : Setup) (cells : List ℕ) (at end stop
       absurd (let y : _≡_ {A = ℕ} 0 1 = cc in omega arith)
 
 -- Lines are fields.
-pub column-broken : (out : List ℕ) (p : Line) (s : Setup) (cells : List ℕ) (at end stop w : ℕ) → at < end → fieldAt at (drop at cells) ≡ Broken
+pub column-broken : (out : List ℕ) (p : Line) (s : RenderOptions) (cells : List ℕ) (at end stop w : ℕ) → at < end → fieldAt at (drop at cells) ≡ Broken
     → AddsColumn out p s cells at end stop w out p
 column-broken out p s cells at end stop w h e c is st l held = absurd (line-broken cells at end (c .lines) h (is .lines-are) e)
 
-pub column-end : (out : List ℕ) (p : Line) (s : Setup) (cells : List ℕ) (at end stop w : ℕ) → at < end → fieldAt at (drop at cells) ≡ End
+pub column-end : (out : List ℕ) (p : Line) (s : RenderOptions) (cells : List ℕ) (at end stop w : ℕ) → at < end → fieldAt at (drop at cells) ≡ End
     → AddsColumn out p s cells at end stop w out p
 column-end out p s cells at end stop w h e c is st l held = absurd (line-end cells at end (c .lines) h (is .lines-are) e)
 
 -- ---- a line of the row
 
 -- the line before cell k: with an edge, unless that is the first
-abbrev pub opened : Setup → ℕ → List Piece → List Piece
+abbrev pub opened : RenderOptions → ℕ → List Piece → List Piece
 opened s zero l = l
 opened s (suc k) l = push-str l (s .annotation) (edge s)
 
 -- the cells that are left after k
-unfoldable pub columnsFrom : Setup → ℕ → List Piece → List Column → List Piece
+unfoldable pub columnsFrom : RenderOptions → ℕ → List Piece → List Column → List Piece
 columnsFrom s k l [] = l
 columnsFrom s k l (c ∷ cs) = columnsFrom s (suc k) (addColumn s (opened s k l) c (c .lines)) cs
 
 -- after the first their number does not matter
-columns-later : (s : Setup) (j k : ℕ) (l : List Piece) (cs : List Column) → columnsFrom s (suc j) l cs ≡ columnsFrom s (suc k) l cs
+columns-later : (s : RenderOptions) (j k : ℕ) (l : List Piece) (cs : List Column) → columnsFrom s (suc j) l cs ≡ columnsFrom s (suc k) l cs
 unfolding columnsFrom
 columns-later s j k l [] = refl
 columns-later s j k l (c ∷ cs) = columns-later s (suc j) (suc k) (addColumn s (opened s (suc j) l) c (c .lines)) cs
 
 -- From the first cell on it is the line.
-columns-line : (s : Setup) (l : List Piece) (cs : List Column) → columnsFrom s 0 l cs ≡ columnLine s l cs
+columns-line : (s : RenderOptions) (l : List Piece) (cs : List Column) → columnsFrom s 0 l cs ≡ columnLine s l cs
 unfolding columnsFrom columnLine
 columns-line s l [] = refl
 columns-line s l (c ∷ []) = refl
@@ -266,7 +266,7 @@ columns-line s l (c ∷ d ∷ cs) =
     ∙ columns-line s (push-str (addColumn s l c (c .lines)) (s .annotation) (edge s)) (d ∷ cs)
 
 -- the cells of a row in their bytes, the store and the lines before its next line
-module _ (out₀ : List ℕ) (p : Lines) (s : Setup) (cells ats ends stops widths : List ℕ) (n : ℕ) where
+module _ (out₀ : List ℕ) (p : Lines) (s : RenderOptions) (cells ats ends stops widths : List ℕ) (n : ℕ) where
   -- k cells are laid
   pub record RowLaid (out : List ℕ) (line : Line) (k : ℕ) : Type 0 where
     pub few : k ≤ n
@@ -343,7 +343,7 @@ module _ (out₀ : List ℕ) (p : Lines) (s : Setup) (cells ats ends stops width
         }
 
     -- An edge before the others.
-    pub edge-some : (out′ : List ℕ) (r : Line) → 0 < k → k < n → length out′ ≡ length out → Grown line r 16 → AddsEdge out line s out′ r → EdgeLaid out′ r k
+    pub edge-some : (out′ : List ℕ) (r : Line) → 0 < k → k < n → length out′ ≡ length out → LineGrown line r 16 → AddsEdge out line s out′ r → EdgeLaid out′ r k
     edge-some out′ r z h size g f =
         record {
           few = h;
@@ -364,7 +364,7 @@ module _ (out₀ : List ℕ) (p : Lines) (s : Setup) (cells ats ends stops width
         inner (suc j) h l = refl
 
     -- A line of up to 16 cells is short enough to end.
-    pub row-fits : n ≤ 16 → Fits p line 8000000
+    pub row-fits : n ≤ 16 → LineBegun p line 8000000
     row-fits few =
         record { base = w .base; on = w .on; piece = w .piece; at = omega (arith, w .at, w .few); cols = omega (arith, w .cols, w .few) }
 
@@ -389,7 +389,7 @@ module _ (out₀ : List ℕ) (p : Lines) (s : Setup) (cells ats ends stops width
         }
 
     -- One cell more.
-    pub row-on : (out′ : List ℕ) (r : Line) → length out′ ≡ length out → Grown line r 264000
+    pub row-on : (out′ : List ℕ) (r : Line) → length out′ ≡ length out → LineGrown line r 264000
         → AddsColumn out line s cells (getD ats k 0) (getD ends k 0) (getD stops k 0) (getD widths k 0) out′ r → RowLaid out′ r (k + 1)
     row-on out′ r size g f =
         record {
@@ -542,7 +542,7 @@ no-height (c ∷ cs) f =
 -- ---- all lines of the row
 
 -- where there is a line left the lines go on with one
-lines-next : (s : Setup) (cs : List Column) → 0 < columnsHeight cs
+lines-next : (s : RenderOptions) (cs : List Column) → 0 < columnsHeight cs
     → columnLines s (columnsHeight cs) cs ≡ text (columnLine s [] cs) ∷ columnLines s (columnsHeight (map nextColumn cs)) (map nextColumn cs)
 unfolding columnLines
 lines-next s cs h = ap (λ (m : ℕ). columnLines s m cs) e
@@ -550,23 +550,23 @@ lines-next s cs h = ap (λ (m : ℕ). columnLines s m cs) e
     e : columnsHeight cs ≡ suc (columnsHeight (map nextColumn cs))
     e = omega (arith, next-height cs)
 
-lines-none : (s : Setup) (cs : List Column) → columnsHeight cs ≡ 0 → columnLines s (columnsHeight cs) cs ≡ []
+lines-none : (s : RenderOptions) (cs : List Column) → columnsHeight cs ≡ 0 → columnLines s (columnsHeight cs) cs ≡ []
 unfolding columnLines
 lines-none s cs e = ap (λ (m : ℕ). columnLines s m cs) e
 
 -- the cells of a row in their bytes, and where their cursors stand
 module _ (cells ats ends stops widths : List ℕ) (n : ℕ) (cs : List Column) (c : ColumnsAre cells ats ends stops widths n cs) where
-  left-height : Left true ats ends n → 0 < columnsHeight cs
+  left-height : LinesLeft true ats ends n → 0 < columnsHeight cs
   left-height (k, h, x) =
       let f = first-line cells (getD ats k 0) (getD ends k 0) (columnAt cs k .lines) x (c .each k h .lines-are) in
       some-height cs k (rw (f .are) (omega arith))
 
-  done-height : Left false ats ends n → columnsHeight cs ≡ 0
+  done-height : LinesLeft false ats ends n → columnsHeight cs ≡ 0
   done-height f =
       no-height cs (λ k h. let i : k < n = omega (arith, c .count) in no-lines cells (getD ats k 0) (getD ends k 0) (columnAt cs k .lines) (f k i) (c .each k i .lines-are))
 
 -- the store, the lines and the cursors before the row
-module _ (out₀ : List ℕ) (p : Lines) (s : Setup) (cells ats₀ ends stops widths : List ℕ) (n : ℕ) where
+module _ (out₀ : List ℕ) (p : Lines) (s : RenderOptions) (cells ats₀ ends stops widths : List ℕ) (n : ℕ) where
   -- some lines are added: those that are left come after them
   pub record RowsLaid (out ats : List ℕ) (q : Lines) : Type 0 where
     pub bounds : InBounds q
@@ -592,11 +592,11 @@ module _ (out₀ : List ℕ) (p : Lines) (s : Setup) (cells ats₀ ends stops wi
 
   module _ (out ats : List ℕ) (q : Lines) (w : RowsLaid out ats q) where
     -- A cell with a line left has bytes left.
-    pub rows-few : Left true ats ends n → q .count + 1 ≤ p .count + 65535
+    pub rows-few : LinesLeft true ats ends n → q .count + 1 ≤ p .count + 65535
     rows-few (k, h, x) = omega (arith, x, w .near k h x, w .low)
 
     -- One line more.
-    pub rows-on : (out′ ats′ : List ℕ) (r : Lines) → p .count ≤ 65536 → Left true ats ends n → length out′ ≡ length out → Next q r
+    pub rows-on : (out′ ats′ : List ℕ) (r : Lines) → p .count ≤ 65536 → LinesLeft true ats ends n → length out′ ≡ length out → OneLineMore q r
         → AddsRowLine out q s cells ats ends stops widths n out′ r → AllMove ats ends ats′ n → AllGoOn cells ats ends n ats′ → RowsLaid out′ ats′ r
     rows-on out′ ats′ r few more size next f moved gone =
         record {
@@ -623,7 +623,7 @@ module _ (out₀ : List ℕ) (p : Lines) (s : Setup) (cells ats₀ ends stops wi
         nearer k h x (inr y) = absurd (omega (arith, x, y, moved k h .stays y))
 
     -- All lines.
-    pub rows-end : Left false ats ends n → AddsRow out₀ p s cells ats₀ ends stops widths n out q
+    pub rows-end : LinesLeft false ats ends n → AddsRow out₀ p s cells ats₀ ends stops widths n out q
     rows-end done cs c st ls e =
         let (ds, ms, d, em, rest) = w .left cs c st ls e in
         let none = lines-none s ds (done-height cells ats ends stops widths n ds d done) in

@@ -6,7 +6,7 @@ use mathlib.Core.List.{List}
 use Prim.Native.Nat.{ℕ, _+_, _≤_, _<_}
 use lib.ListN.{length, take, getD}
 use Rattle.borders.specs.BorderHoriz.{merge-from-below}
-use Rattle.borders.specs.Buffer.{Holds}
+use Rattle.borders.specs.Buffer.{HoldsBorder}
 use Rattle.fields.specs.Field.{raws, readAll}
 use Rattle.fields.specs.Sheet.{RenderLine, Cell, readLine}
 use Rattle.rows.specs.SubRenderer.{top}
@@ -31,13 +31,13 @@ AllPlaced cells ends stops widths n = (k : ℕ) → k < n → Sat cells (getD en
 -- `merge_top`: the first border of a cell's lines
 abbrev pub MergesTop : List ℕ → ℕ → List ℕ → ℕ → List ℕ → ℕ → Type 0
 MergesTop border n body pos border′ r =
-    (ls : List RenderLine) → readAll readLine (raws body) ≡ some ls → Holds border′ r (merge-from-below (take n border) (top ls) pos)
+    (ls : List RenderLine) → readAll readLine (raws body) ≡ some ls → HoldsBorder border′ r (merge-from-below (take n border) (top ls) pos)
 
 -- `merge_tops`
 abbrev pub MergesTops : List ℕ → ℕ → List ℕ → List ℕ → ℕ → Type 0
-MergesTops border n cells border′ r = (cs : List Cell) → CellsAre cells cs → Holds border′ r (topsOf 0 cs (take n border))
+MergesTops border n cells border′ r = (cs : List Cell) → CellsAre cells cs → HoldsBorder border′ r (topsOf 0 cs (take n border))
 
 -- `merge_bottoms`
 abbrev pub MergesBottoms : List ℕ → ℕ → List ℕ → List ℕ → List ℕ → List ℕ → ℕ → List ℕ → ℕ → Type 0
 MergesBottoms border len cells ends stops widths n border′ r =
-    (ats : List ℕ) (cols : List Column) → ColumnsAre cells ats ends stops widths n cols → Holds border′ r (bottomsOf 0 cols (take len border))
+    (ats : List ℕ) (cols : List Column) → ColumnsAre cells ats ends stops widths n cols → HoldsBorder border′ r (bottomsOf 0 cols (take len border))

@@ -9,7 +9,7 @@ use lib.ListN.{length, take, getD}
 use Rattle.fields.specs.Answer.{give, rendered}
 use Rattle.fields.specs.Sheet.{RenderLine, border, Cell, readSheet}
 use Rattle.fields.specs.declared.answer.Rendered.{Rendered}
-use Rattle.rows.specs.declared.Setup.{Setup}
+use Rattle.rows.specs.declared.RenderOptions.{RenderOptions}
 use Rattle.rows.specs.SubRenderer.{padded, onLast, endsInBorder}
 use Rattle.rows.specs.Columns.{Column, cellWidths, borderAbove, borderBelow, flatColumns}
 use Rattle.rows.specs.Answer.{finished}
@@ -30,7 +30,7 @@ PutsPrev out p content cells collapse widths n out′ r =
     → (st : List ℕ) (ls : List RenderLine) → Emitted st ls out p → Emitted st (ls ++ (border a (borderAbove collapse cs segs) ∷ [])) out′ r
 
 -- the border below the row
-abbrev pub AddsNext : List ℕ → Lines → Setup → Bool → List ℕ → List ℕ → List ℕ → List ℕ → ℕ → List ℕ → Lines → Type 0
+abbrev pub AddsNext : List ℕ → Lines → RenderOptions → Bool → List ℕ → List ℕ → List ℕ → List ℕ → ℕ → List ℕ → Lines → Type 0
 AddsNext out p s joined cells ends stops widths n out′ r =
     (cs : List Cell) (ats : List ℕ) (cols : List Column) → take n widths ≡ cellWidths cs → ColumnsAre cells ats ends stops widths n cols
     → (st : List ℕ) (ls : List RenderLine) → Emitted st ls out p
@@ -49,7 +49,7 @@ AddsOld out sheet cells collapse last joined widths n out′ r =
     → Emitted out (onLast (borderAbove collapse cs) old) out′ r
 
 -- the whole call, past its refusals 1 to 6
-abbrev pub Lays : Setup → List ℕ → List ℕ → Bool → ℕ → Bool → List ℕ → Rendered → List ℕ → Type 0
+abbrev pub Lays : RenderOptions → List ℕ → List ℕ → Bool → ℕ → Bool → List ℕ → Rendered → List ℕ → Type 0
 Lays s sheet cells collapse last joined store r store′ =
     (old : List RenderLine) (cs : List Cell) → SheetLast sheet old last joined → CellsAre cells cs
     → rendered r store′ ≡ give (finished (flatColumns s old cs collapse)) store

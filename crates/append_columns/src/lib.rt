@@ -14,7 +14,7 @@ use fields::answer::refuse;
 use fields::cells::cells_refusal;
 use fields::field::first_of;
 use fields::sheet::sheet_refusal;
-use rows::Setup;
+use rows::RenderOptions;
 use rows::width_refusal;
 ghost use mathlib.Core.Path.{_≡_};
 ghost use Rattle.fields.specs.Answer.{rendered};
@@ -23,16 +23,16 @@ ghost use Rattle.rows.specs.Answer.{columnsAnswer};
 // The cells as a row under the sheet's last line; collapsing takes off the cells' first and last borders. Number, length and every
 // byte of the store are those of `columnsAnswer`.
 pub fn append_columns_with_borders(
-    setup: Setup,
+    options: RenderOptions,
     sheet: &[u8],
     cells: &[u8],
     collapse: bool,
     store: &mut [u8],
 ) -> Rendered
-    ensures { λ r. ⌜ rendered r (now (store .exit)) ≡ columnsAnswer setup (now (sheet .entry)) (now (cells .entry)) collapse (now (store .entry)) ⌝ }
+    ensures { λ r. ⌜ rendered r (now (store .exit)) ≡ columnsAnswer options (now (sheet .entry)) (now (cells .entry)) collapse (now (store .entry)) ⌝ }
 {
     let inputs = first_of(sheet_refusal(sheet), cells_refusal(cells));
-    let n = first_of(inputs, width_refusal(setup.width));
+    let n = first_of(inputs, width_refusal(options.width));
     if n != 0 {
         return refuse(n, store);
     }
@@ -46,5 +46,5 @@ pub fn append_columns_with_borders(
             return refuse(6, store);
         }
     }
-    lay(setup, sheet, cells, collapse, last, joined, store)
+    lay(options, sheet, cells, collapse, last, joined, store)
 }

@@ -1,11 +1,11 @@
 // The lines of a row. What a function here requires, its callers in this crate show.
 use crate::cells::bottom_from;
 use add_line::lines::Lines;
-use add_line::lines::end_line;
+use add_line::lines::add_text_line;
 use borders::draw::drawn_len;
 use fields::field::Field;
 use fields::field::field_at;
-use rows::Setup;
+use rows::RenderOptions;
 use tagged_line::line::Line;
 use tagged_line::line::new_line;
 use tagged_line::line::push_drawn;
@@ -14,22 +14,28 @@ use tagged_line::line::push_ws;
 use tagged_line::piece::add_pieces;
 ghost use Prim.Native.Nat.{_≤_, _<_};
 ghost use lib.ListN.{length};
-ghost use Rattle.tagged_line.specs.Held.{Within, Grown};
-ghost use Rattle.add_line.specs.Emitted.{InBounds, Next};
+ghost use Rattle.tagged_line.specs.Held.{Within, LineGrown};
+ghost use Rattle.add_line.specs.Emitted.{InBounds, OneLineMore};
 ghost use Rattle.append_columns.specs.Cells.{Sits, AllSit, AllNear};
-ghost use Rattle.append_columns.specs.Row.{AddsText, AddsColumn, AddsEdge, AddsRowLine, Moves, GoesOn, AllMove, AllGoOn, Left, AddsRow};
+ghost use Rattle.append_columns.specs.Row.{AddsCellText, AddsColumn, AddsEdge, AddsRowLine, Moves, GoesOn, AllMove, AllGoOn, LinesLeft, AddsRow};
 
 // A text line of a cell, re-pushed and filled to the cell's width.
-fn add_text(out: &mut [u8], line: Line, setup: Setup, content: &[u8], width: usize) -> Line
+fn add_cell_text(
+    out: &mut [u8],
+    line: Line,
+    options: RenderOptions,
+    content: &[u8],
+    width: usize,
+) -> Line
     requires { ⌜ Within line 264000 × (length (now content) < 65536) × (width < 256) ⌝ }
-    ensures { λ r. ⌜ Grown line r 264000 ⌝ }
-    ensures { λ r. ⌜ AddsText (now (out .entry)) line setup (now (content .entry)) width (now (out .exit)) r ⌝ }
+    ensures { λ r. ⌜ LineGrown line r 264000 ⌝ }
+    ensures { λ r. ⌜ AddsCellText (now (out .entry)) line options (now (content .entry)) width (now (out .exit)) r ⌝ }
 {
     let before = line.cols;
     let next = add_pieces(out, line, content, true, true);
     let used = next.cols - before;
     if used < width {
-        return push_ws(out, next, width - used, setup.annotation);
+        return push_ws(out, next, width - used, options.annotation);
     }
     next
 }
@@ -38,7 +44,7 @@ fn add_text(out: &mut [u8], line: Line, setup: Setup, content: &[u8], width: usi
 fn add_column(
     out: &mut [u8],
     line: Line,
-    setup: Setup,
+    options: RenderOptions,
     cells: &[u8],
     at: usize,
     end: usize,
@@ -47,10 +53,10 @@ fn add_column(
     drawn: usize,
 ) -> Line
     requires { ⌜ Within line 264000 × Sits (now cells) end stop width drawn ⌝ }
-    ensures { λ r. ⌜ Grown line r 264000 ⌝ }
-    ensures { λ r. ⌜ AddsColumn (now (out .entry)) line setup (now (cells .entry)) at end stop width (now (out .exit)) r ⌝ }
+    ensures { λ r. ⌜ LineGrown line r 264000 ⌝ }
+    ensures { λ r. ⌜ AddsColumn (now (out .entry)) line options (now (cells .entry)) at end stop width (now (out .exit)) r ⌝ }
 {
-    let annotation = setup.annotation;
+    let annotation = options.annotation;
     if end <= at {
         let from = bottom_from(end, stop);
         return push_drawn(
@@ -71,7 +77,7 @@ fn add_column(
             next,
         } => {
             if letter == b'L' {
-                return add_text(out, line, setup, &cells[start..next], width);
+                return add_cell_text(out, line, options, &cells[start..next], width);
             }
             if next <= start {
                 return line;
@@ -86,22 +92,22 @@ fn add_column(
 }
 
 // Between two cells: │, or a space with borders off.
-fn add_edge(out: &mut [u8], line: Line, setup: Setup) -> Line
+fn add_edge(out: &mut [u8], line: Line, options: RenderOptions) -> Line
     requires { ⌜ Within line 16 ⌝ }
-    ensures { λ r. ⌜ Grown line r 16 ⌝ }
-    ensures { λ r. ⌜ AddsEdge (now (out .entry)) line setup (now (out .exit)) r ⌝ }
+    ensures { λ r. ⌜ LineGrown line r 16 ⌝ }
+    ensures { λ r. ⌜ AddsEdge (now (out .entry)) line options (now (out .exit)) r ⌝ }
 {
-    if setup.borders {
-        return push_str(out, line, setup.annotation, b"\xE2\x94\x82", 1);
+    if options.borders {
+        return push_str(out, line, options.annotation, b"\xE2\x94\x82", 1);
     }
-    push_str(out, line, setup.annotation, b" ", 1)
+    push_str(out, line, options.annotation, b" ", 1)
 }
 
 // One line of the row.
 fn add_row_line(
     out: &mut [u8],
     lines: Lines,
-    setup: Setup,
+    options: RenderOptions,
     cells: &[u8],
     at: &[usize; 16],
     end: &[usize; 16],
@@ -111,19 +117,19 @@ fn add_row_line(
     n: usize,
 ) -> Lines
     requires { ⌜ InBounds lines × (n ≤ 16) × AllSit (now cells) (now end) (now stop) (now width) (now drawn) n ⌝ }
-    ensures { λ r. ⌜ Next lines r ⌝ }
-    ensures { λ r. ⌜ AddsRowLine (now (out .entry)) lines setup (now (cells .entry)) (now (at .entry)) (now (end .entry)) (now (stop .entry)) (now (width .entry)) n (now (out .exit)) r ⌝ }
+    ensures { λ r. ⌜ OneLineMore lines r ⌝ }
+    ensures { λ r. ⌜ AddsRowLine (now (out .entry)) lines options (now (cells .entry)) (now (at .entry)) (now (end .entry)) (now (stop .entry)) (now (width .entry)) n (now (out .exit)) r ⌝ }
 {
     let mut line = new_line(lines.at);
     let mut k: usize = 0;
     while k < n {
         if 0 < k {
-            line = add_edge(out, line, setup);
+            line = add_edge(out, line, options);
         }
         line = add_column(
             out,
             line,
-            setup,
+            options,
             cells,
             at[k],
             end[k],
@@ -133,7 +139,7 @@ fn add_row_line(
         );
         k += 1;
     }
-    end_line(out, lines, line, setup)
+    add_text_line(out, lines, line, options)
 }
 
 // A cell's cursor, one line on.
@@ -182,7 +188,7 @@ fn next_lines(cells: &[u8], at: &mut [usize; 16], end: &[usize; 16], n: usize)
 // Whether a cell of the row has a line left.
 fn any_left(at: &[usize; 16], end: &[usize; 16], n: usize) -> bool
     requires { ⌜ n ≤ 16 ⌝ }
-    ensures { λ r. ⌜ Left r (now (at .entry)) (now (end .entry)) n ⌝ }
+    ensures { λ r. ⌜ LinesLeft r (now (at .entry)) (now (end .entry)) n ⌝ }
 {
     let mut k: usize = 0;
     while k < n {
@@ -198,7 +204,7 @@ fn any_left(at: &[usize; 16], end: &[usize; 16], n: usize) -> bool
 pub fn add_row(
     out: &mut [u8],
     lines: Lines,
-    setup: Setup,
+    options: RenderOptions,
     cells: &[u8],
     at: &mut [usize; 16],
     end: &[usize; 16],
@@ -210,11 +216,11 @@ pub fn add_row(
     requires { ⌜ InBounds lines × (n ≤ 16) × AllSit (now cells) (now end) (now stop) (now width) (now drawn) n ⌝ }
     requires { ⌜ AllNear (now at) (now end) n × (lines .count ≤ 65536) ⌝ }
     ensures { λ r. ⌜ InBounds r × (r .count ≤ 131072) ⌝ }
-    ensures { λ r. ⌜ AddsRow (now (out .entry)) lines setup (now (cells .entry)) (now (at .entry)) (now (end .entry)) (now (stop .entry)) (now (width .entry)) n (now (out .exit)) r ⌝ }
+    ensures { λ r. ⌜ AddsRow (now (out .entry)) lines options (now (cells .entry)) (now (at .entry)) (now (end .entry)) (now (stop .entry)) (now (width .entry)) n (now (out .exit)) r ⌝ }
 {
     let mut next = lines;
     while any_left(at, end, n) {
-        next = add_row_line(out, next, setup, cells, at, end, stop, width, drawn, n);
+        next = add_row_line(out, next, options, cells, at, end, stop, width, drawn, n);
         next_lines(cells, at, end, n);
     }
     next

@@ -16,13 +16,13 @@ use borders::border::new_type;
 use borders::border::stretch_to;
 use fields::answer::Rendered;
 use fields::store::put_bytes;
-use rows::Setup;
+use rows::RenderOptions;
 ghost use mathlib.Core.Path.{_≡_};
 ghost use mathlib.Core.Bool.{true};
 ghost use Prim.Native.Nat.{_+_, _-_, _≤_, _<_};
 ghost use lib.ListN.{length, take, drop};
 ghost use Rattle.fields.specs.Field.{raws};
-ghost use Rattle.add_line.specs.Emitted.{InBounds, Next};
+ghost use Rattle.add_line.specs.Emitted.{InBounds, OneLineMore};
 ghost use Rattle.append_columns.specs.Edges.{AllNarrow, AllPlaced};
 ghost use Rattle.append_columns.specs.Laid.{NextOrSame, PutsPrev, AddsNext, AddsOld, Lays};
 
@@ -58,7 +58,7 @@ fn put_prev_border(
 fn add_next_border(
     out: &mut [u8],
     lines: Lines,
-    setup: Setup,
+    options: RenderOptions,
     joined: bool,
     cells: &[u8],
     border: &mut [u8],
@@ -68,15 +68,15 @@ fn add_next_border(
     n: usize,
 ) -> Lines
     requires { ⌜ InBounds lines × (length (now border) ≡ 69632) × (n ≤ 16) × AllPlaced (now cells) (now end) (now stop) (now width) n ⌝ }
-    ensures { λ r. ⌜ Next lines r ⌝ }
-    ensures { λ r. ⌜ AddsNext (now (out .entry)) lines setup joined (now (cells .entry)) (now (end .entry)) (now (stop .entry)) (now (width .entry)) n (now (out .exit)) r ⌝ }
+    ensures { λ r. ⌜ OneLineMore lines r ⌝ }
+    ensures { λ r. ⌜ AddsNext (now (out .entry)) lines options joined (now (cells .entry)) (now (end .entry)) (now (stop .entry)) (now (width .entry)) n (now (out .exit)) r ⌝ }
 {
     let mut len = new_type(border, total_width(width, n), 0);
     if joined {
         len = join_edges(border, len, width, n, Side::Above);
     }
     let all = merge_bottoms(border, len, cells, end, stop, width, n);
-    add_border(out, lines, setup, setup.annotation, &border[..all])
+    add_border(out, lines, options, options.annotation, &border[..all])
 }
 
 // The lines of the old sheet, without a last border that is joined.
@@ -115,7 +115,7 @@ fn add_old(
 
 // Old lines, row and border, with the room that they need.
 pub fn lay(
-    setup: Setup,
+    options: RenderOptions,
     sheet: &[u8],
     cells: &[u8],
     collapse: bool,
@@ -125,7 +125,7 @@ pub fn lay(
 ) -> Rendered
     requires { ⌜ (5 ≤ last) × (last ≤ length (now sheet)) × (joined ≡ true → last + 3 ≤ length (now sheet)) × (length (now sheet) ≤ last + 65538) ⌝ }
     requires { ⌜ (length (raws (drop 5 (now sheet))) ≤ 65535) × (length (raws (take (last - 5) (drop 5 (now sheet)))) ≤ 65535) × (length (raws (now cells)) ≤ 16) ⌝ }
-    ensures { λ r. ⌜ Lays setup (now (sheet .entry)) (now (cells .entry)) collapse last joined (now (store .entry)) r (now (store .exit)) ⌝ }
+    ensures { λ r. ⌜ Lays options (now (sheet .entry)) (now (cells .entry)) collapse last joined (now (store .entry)) r (now (store .exit)) ⌝ }
 {
     let mut at = [0usize; 16];
     let mut end = [0usize; 16];
@@ -156,7 +156,7 @@ pub fn lay(
     let rows = add_row(
         store,
         old,
-        setup,
+        options,
         cells,
         &mut at,
         &end,
@@ -165,11 +165,11 @@ pub fn lay(
         &drawn,
         n,
     );
-    if setup.borders {
+    if options.borders {
         let all = add_next_border(
             store,
             rows,
-            setup,
+            options,
             joined,
             cells,
             &mut border,

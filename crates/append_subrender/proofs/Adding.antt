@@ -21,13 +21,13 @@ use Rattle.borders.specs.BorderHoriz.{stretch-to, drawn, to-string}
 use Rattle.borders.proofs.Drawing.{drawn-string}
 use Rattle.rows.specs.TaggedLine.{push-str, addPieces}
 use Rattle.rows.specs.SubRenderer.{padded, withPrefix, later, prefixed}
-use Rattle.rows.specs.declared.Setup.{Setup}
+use Rattle.rows.specs.declared.RenderOptions.{RenderOptions}
 use Rattle.rows.proofs.Lines.{front-pieces}
 use Rattle.fields.proofs.Readings.{read-first, read-none}
-use Rattle.tagged_line.specs.Held.{Within, Grown, Held, Pushes, Draws, newLine}
+use Rattle.tagged_line.specs.Held.{Within, LineGrown, Held, Pushes, Draws, newLine}
 use Rattle.tagged_line.specs.Pieces.{PiecesOf, AddsPieces}
 use Rattle.tagged_line.specs.declared.line.Line.{Line}
-use Rattle.add_line.specs.Emitted.{InBounds, Next, Fits, Emitted, AddsText}
+use Rattle.add_line.specs.Emitted.{InBounds, OneLineMore, LineBegun, Emitted, AddsTextLine}
 use Rattle.add_line.specs.declared.lines.Lines.{Lines}
 use Rattle.add_line.proofs.Emitting.{held-new}
 use Rattle.append_subrender.specs.Prefixes.{Placed, current, Coming, Found, Steps, noPrefix, AddsPrefixed, AddsGuest}
@@ -37,9 +37,9 @@ use Rattle.append_subrender.proofs.Pairing.{paired-on, paired-none, pai
 -- ---- numbers
 
 -- A line begun where the lines end, grown so far, has room for more.
-pub grown-within : (p : Lines) (new line : Line) (n m : ℕ) → InBounds p → new ≡ newLine (p .at) → Grown new line n → n + m ≤ 7000000 → Within line m
+pub grown-within : (p : Lines) (new line : Line) (n m : ℕ) → InBounds p → new ≡ newLine (p .at) → LineGrown new line n → n + m ≤ 7000000 → Within line m
 grown-within p new line n m h is grown few =
-    let g : Grown (newLine (p .at)) line n = rw is at grown in
+    let g : LineGrown (newLine (p .at)) line n = rw is at grown in
     record {
       base = omega (arith, g .base, g .on);
       piece = g .piece;
@@ -53,9 +53,9 @@ new-within p new m h is few =
     rw is (record { base = omega arith; piece = omega arith; room = omega (arith, h .at, h .count); cols = omega arith })
 
 -- It is short enough to be ended.
-pub grown-fits : (p : Lines) (new line : Line) (n : ℕ) → new ≡ newLine (p .at) → Grown new line n → n ≤ 7000000 → Fits p line 8000000
+pub grown-fits : (p : Lines) (new line : Line) (n : ℕ) → new ≡ newLine (p .at) → LineGrown new line n → n ≤ 7000000 → LineBegun p line 8000000
 grown-fits p new line n is grown few =
-    let g : Grown (newLine (p .at)) line n = rw is at grown in
+    let g : LineGrown (newLine (p .at)) line n = rw is at grown in
     record {
       base = g .base;
       on = omega (arith, g .base, g .on);
@@ -65,7 +65,7 @@ grown-fits p new line n is grown few =
     }
 
 -- Two growths are one.
-pub grown-twice : (p q r : Line) (n m : ℕ) → Grown p q n → Grown q r m → Grown p r (n + m)
+pub grown-twice : (p q r : Line) (n m : ℕ) → LineGrown p q n → LineGrown q r m → LineGrown p r (n + m)
 grown-twice p q r n m g h =
     record {
       base = h .base ∙ g .base;
@@ -77,7 +77,7 @@ grown-twice p q r n m g h =
     }
 
 -- One line more stays in bounds.
-pub next-bounds : (p r : Lines) → InBounds p → Next p r → p .count + 1 < 1048576 → InBounds r
+pub next-bounds : (p r : Lines) → InBounds p → OneLineMore p r → p .count + 1 < 1048576 → InBounds r
 next-bounds p r h n few = record { at = omega (arith, h .at, n .at, n .count); count = omega (arith, n .count, few) }
 
 -- ---- one line behind its prefix
@@ -118,9 +118,9 @@ text-pieces letter bytes g is read = go (readAll readPiece (raws bytes)) refl (r
         (ps, same, f, pieces-good (raws bytes) ps f)
 
 -- A text: the prefix pushed, the first piece pushed, and the others after it as they stand.
-pub prefixed-text : (o₀ o₁ o₂ o₃ : List ℕ) (p r : Lines) (s : Setup) (prefix : List ℕ) (cols letter : ℕ) (bytes : List ℕ) (new head line : Line)
+pub prefixed-text : (o₀ o₁ o₂ o₃ : List ℕ) (p r : Lines) (s : RenderOptions) (prefix : List ℕ) (cols letter : ℕ) (bytes : List ℕ) (new head line : Line)
     → new ≡ newLine (p .at) → letter ≡ 0x4C → length o₂ ≡ length o₀ → Pushes o₀ new (s .annotation) prefix cols o₁ head
-    → AddsPieces o₁ head bytes true false o₂ line → AddsText o₂ p line s o₃ r → AddsPrefixed o₀ p s prefix cols letter bytes o₃ r
+    → AddsPieces o₁ head bytes true false o₂ line → AddsTextLine o₂ p line s o₃ r → AddsPrefixed o₀ p s prefix cols letter bytes o₃ r
 unfolding withPrefix
 prefixed-text o₀ o₁ o₂ o₃ p r s prefix cols letter bytes new head line is el size push add end g read ok formed wide st ls e =
     let (ps, same, pieces, good) = text-pieces letter bytes g el read in
@@ -152,9 +152,9 @@ own-text segs =
     rw (n, append-nil segs) (drawn-string segs)
 
 -- A border: its drawing pushed onto the prefix, with the sheet's annotation.
-pub prefixed-border : (o₀ o₁ o₂ o₃ : List ℕ) (p r : Lines) (s : Setup) (prefix : List ℕ) (cols letter : ℕ) (bytes : List ℕ) (new head line : Line)
+pub prefixed-border : (o₀ o₁ o₂ o₃ : List ℕ) (p r : Lines) (s : RenderOptions) (prefix : List ℕ) (cols letter : ℕ) (bytes : List ℕ) (new head line : Line)
     → new ≡ newLine (p .at) → (letter ≡ 0x4C → ⊥) → length o₂ ≡ length o₀ → Pushes o₀ new (s .annotation) prefix cols o₁ head
-    → Draws o₁ head (s .annotation) (take (length bytes - 1) (drop 1 bytes)) 0 false o₂ line → AddsText o₂ p line s o₃ r
+    → Draws o₁ head (s .annotation) (take (length bytes - 1) (drop 1 bytes)) 0 false o₂ line → AddsTextLine o₂ p line s o₃ r
     → AddsPrefixed o₀ p s prefix cols letter bytes o₃ r
 unfolding withPrefix
 prefixed-border o₀ o₁ o₂ o₃ p r s prefix cols letter bytes new head line is other size push draw end g read ok formed wide st ls e =
@@ -167,7 +167,7 @@ prefixed-border o₀ o₁ o₂ o₃ p r s prefix cols letter bytes new head line
     rw same (end st o₀ ls (push-str l (s .annotation) (to-string segs)) e size h₂)
 
 -- What has no annotation is no border.
-pub prefixed-none : (o₀ o₃ : List ℕ) (p r : Lines) (s : Setup) (prefix : List ℕ) (cols letter : ℕ) (bytes : List ℕ) → (letter ≡ 0x4C → ⊥)
+pub prefixed-none : (o₀ o₃ : List ℕ) (p r : Lines) (s : RenderOptions) (prefix : List ℕ) (cols letter : ℕ) (bytes : List ℕ) → (letter ≡ 0x4C → ⊥)
     → length bytes < 1 → AddsPrefixed o₀ p s prefix cols letter bytes o₃ r
 prefixed-none o₀ o₃ p r s prefix cols letter bytes other few g read ok formed wide st ls e =
     let (a, segs, same, bs) = border-bytes letter bytes g other read in
@@ -176,7 +176,7 @@ prefixed-none o₀ o₃ p r s prefix cols letter bytes other few g read ok forme
 -- ---- the lines of a guest
 
 -- the pairs that are left, where the prefixes to come are known
-abbrev pub AddsPairs : List ℕ → Lines → Setup → List ℕ → List ℕ → Bool → Prefix → List ℕ → Lines → Type 0
+abbrev pub AddsPairs : List ℕ → Lines → RenderOptions → List ℕ → List ℕ → Bool → Prefix → List ℕ → Lines → Type 0
 AddsPairs out p s guest prefixes rep prefix out′ r =
     (gs : List RenderLine) (ps : List (List ℕ)) → readAll readLine (raws guest) ≡ some gs → all readableLine gs ≡ true → Coming prefixes rep prefix ps
     → (st : List ℕ) (ls : List RenderLine) → Emitted st ls out p → Emitted st (ls ++ map (padded s) (prefixed s rep gs ps)) out′ r
@@ -186,7 +186,7 @@ pub no-lines-read : (gs : List RenderLine) → readAll readLine (broken ∷ []) 
 unfolding readLine
 no-lines-read gs e = let x = read-first readLine broken [] gs e .first in let z : _≡_ {A = ℕ} 0 1 = cc in omega arith
 
-module _ (out : List ℕ) (p : Lines) (s : Setup) (guest prefixes : List ℕ) (rep : Bool) (prefix : Prefix) where
+module _ (out : List ℕ) (p : Lines) (s : RenderOptions) (guest prefixes : List ℕ) (rep : Bool) (prefix : Prefix) where
   -- No prefix is left.
   pub pairs-out : (q : Prefix) → Steps prefixes rep prefix q → q .found ≡ false → AddsPairs out p s guest prefixes rep prefix out p
   pairs-out q steps lost gs ps read ok c st ls e =
@@ -220,7 +220,7 @@ module _ (out : List ℕ) (p : Lines) (s : Setup) (guest prefixes : List ℕ) (r
       rw (x .are, next, paired-on s rep (x .one) (x .more) t qs, ← append-assoc ls (new ∷ []) (map (padded s) (prefixed s rep (x .more) (later rep t qs)))) e₂
 
 -- Up to a place of the guest the pairs are added, and those from it on are left.
-pub record Walk (out₀ : List ℕ) (p : Lines) (s : Setup) (guest prefixes : List ℕ) (rep : Bool) (out : List ℕ) (q : Lines) (prefix : Prefix) (at : ℕ) : Type 0 where
+pub record Walk (out₀ : List ℕ) (p : Lines) (s : RenderOptions) (guest prefixes : List ℕ) (rep : Bool) (out : List ℕ) (q : Lines) (prefix : Prefix) (at : ℕ) : Type 0 where
   pub size : length out ≡ length out₀
   pub inside : at ≤ length guest
   pub bounds : InBounds q
@@ -228,7 +228,7 @@ pub record Walk (out₀ : List ℕ) (p : Lines) (s : Setup) (guest prefixes : Li
   pub count : q .count + length (raws (drop at guest)) ≡ p .count + length (raws guest)
   pub lines : (out′ : List ℕ) (r : Lines) → AddsPairs out q s (drop at guest) prefixes rep prefix out′ r → AddsGuest out₀ p s guest prefixes rep out′ r
 
-pub walk-start : (out : List ℕ) (p : Lines) (s : Setup) (guest prefixes : List ℕ) (rep : Bool) → InBounds p → Walk out p s guest prefixes rep out p noPrefix 0
+pub walk-start : (out : List ℕ) (p : Lines) (s : RenderOptions) (guest prefixes : List ℕ) (rep : Bool) → InBounds p → Walk out p s guest prefixes rep out p noPrefix 0
 walk-start out p s guest prefixes rep h =
     record {
       size = refl;
@@ -239,11 +239,11 @@ walk-start out p s guest prefixes rep h =
       lines = λ out′ r pairs gs ps read ok reads readable. pairs gs ps read ok (all-come prefixes rep ps reads readable);
     }
 
-module _ (out₀ : List ℕ) (p : Lines) (s : Setup) (guest prefixes : List ℕ) (rep : Bool) (out : List ℕ) (q : Lines) (prefix : Prefix) (at : ℕ)
+module _ (out₀ : List ℕ) (p : Lines) (s : RenderOptions) (guest prefixes : List ℕ) (rep : Bool) (out : List ℕ) (q : Lines) (prefix : Prefix) (at : ℕ)
     (w : Walk out₀ p s guest prefixes rep out q prefix at) where
   -- one pair on
   pub walk-on : (letter start next : ℕ) (out′ : List ℕ) (r : Lines) (pre : Prefix) → p .count + length (raws guest) < 1000000 → FieldIs guest at letter start next
-      → Placed prefixes pre → Steps prefixes rep prefix pre → pre .found ≡ true → Next q r → length out′ ≡ length out
+      → Placed prefixes pre → Steps prefixes rep prefix pre → pre .found ≡ true → OneLineMore q r → length out′ ≡ length out
       → AddsPrefixed out q s (current prefixes pre) (pre .cols) letter (take (next - start) (drop start guest)) out′ r
       → Walk out₀ p s guest prefixes rep out′ r pre next
   walk-on letter start next out′ r pre few f placed steps found more same one =

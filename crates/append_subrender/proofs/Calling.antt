@@ -13,7 +13,7 @@ use Rattle.fields.specs.Answer.{Answer, Verdict, refused, give}
 use Rattle.fields.proofs.Texts.{rest}
 use Rattle.borders.specs.BorderSegHoriz.{Horiz}
 use Rattle.rows.specs.Answer.{finished, subrenderAnswer, vertRowAnswer}
-use Rattle.rows.specs.declared.Setup.{Setup}
+use Rattle.rows.specs.declared.RenderOptions.{RenderOptions}
 use Rattle.rows.proofs.Refusing.{sheet-read, sheet-few, cells-read, subrenderNumber, SubrenderPasses, subrender-refused, cellsNumber, CellsPass, vert-row-refused}
 use Rattle.add_line.specs.Emitted.{noLines, InBounds, Emitted, CopiesLines}
 use Rattle.add_line.specs.declared.lines.Lines.{Lines}
@@ -50,13 +50,13 @@ copied st o₁ p₀ p₁ bs old none e copies =
 -- ---- `append_subrender`
 
 -- A refusal.
-pub subrender-refuses : (n : ℕ) (a : Answer) (s : Setup) (old guest ps : List ℕ) (rep : Bool) (st : List ℕ) → n ≡ subrenderNumber s old guest ps → (n ≡ 0 → ⊥)
+pub subrender-refuses : (n : ℕ) (a : Answer) (s : RenderOptions) (old guest ps : List ℕ) (rep : Bool) (st : List ℕ) → n ≡ subrenderNumber s old guest ps → (n ≡ 0 → ⊥)
     → a ≡ give (refused n) st → a ≡ subrenderAnswer s old guest ps rep st
 unfolding subrenderAnswer
 subrender-refuses n a s old guest ps rep st e h is = is ∙ ap (λ (v : Verdict). give v st) (sym (subrender-refused n s old guest ps rep e h))
 
 -- The lines of the answer.
-pub subrender-gives : (st o₁ o₂ : List ℕ) (p₀ p₁ p₂ : Lines) (a : Answer) (s : Setup) (old guest ps : List ℕ) (rep : Bool)
+pub subrender-gives : (st o₁ o₂ : List ℕ) (p₀ p₁ p₂ : Lines) (a : Answer) (s : RenderOptions) (old guest ps : List ℕ) (rep : Bool)
     → SubrenderPasses s (readSheet old) (readSheet guest) (readPrefixes ps) rep → p₀ ≡ noLines → CopiesLines st p₀ (body old) o₁ p₁
     → AddsGuest o₁ p₁ s (body guest) ps rep o₂ p₂
     → ((d : List ℕ) (ls : List RenderLine) → Emitted d ls o₂ p₂ → a ≡ give (finished ls) d) → a ≡ subrenderAnswer s old guest ps rep st
@@ -72,13 +72,13 @@ subrender-gives st o₁ o₂ p₀ p₁ p₂ a s old guest ps rep k none copies a
 -- ---- `append_vert_row`
 
 -- A refusal.
-pub vert-row-refuses : (n : ℕ) (a : Answer) (s : Setup) (old cs st : List ℕ) → n ≡ cellsNumber s old cs → (n ≡ 0 → ⊥)
+pub vert-row-refuses : (n : ℕ) (a : Answer) (s : RenderOptions) (old cs st : List ℕ) → n ≡ cellsNumber s old cs → (n ≡ 0 → ⊥)
     → a ≡ give (refused n) st → a ≡ vertRowAnswer s old cs st
 unfolding vertRowAnswer
 vert-row-refuses n a s old cs st e h is = is ∙ ap (λ (v : Verdict). give v st) (sym (vert-row-refused n s old cs e h))
 
 -- The lines of the answer.
-pub vert-row-gives : (st o₁ o₂ o₃ : List ℕ) (p₀ p₁ p₂ p₃ : Lines) (a : Answer) (s : Setup) (old cs : List ℕ) → CellsPass s (readSheet old) (readCells cs)
+pub vert-row-gives : (st o₁ o₂ o₃ : List ℕ) (p₀ p₁ p₂ p₃ : Lines) (a : Answer) (s : RenderOptions) (old cs : List ℕ) → CellsPass s (readSheet old) (readCells cs)
     → p₀ ≡ noLines → CopiesLines st p₀ (body old) o₁ p₁ → AddsCells o₁ p₁ s cs o₂ p₂ → AddsRuleIf o₂ p₂ s Horiz (s .borders) o₃ p₃
     → ((d : List ℕ) (ls : List RenderLine) → Emitted d ls o₃ p₃ → a ≡ give (finished ls) d) → a ≡ vertRowAnswer s old cs st
 unfolding vertRowAnswer

@@ -18,7 +18,7 @@ use Rattle.fields.proofs.Fields.{FieldIs}
 use Rattle.borders.specs.BorderSegHoriz.{Horiz}
 use Rattle.borders.specs.BorderHoriz.{new-type}
 use Rattle.rows.specs.SubRenderer.{padded, extend-lines, withPrefix, later, prefixed, append-subrender, ifDrawn, between, appendEach, append-vert-row}
-use Rattle.rows.specs.declared.Setup.{Setup}
+use Rattle.rows.specs.declared.RenderOptions.{RenderOptions}
 use Rattle.rows.proofs.Lines.{extend-map, readable-formed}
 use Rattle.fields.proofs.Readings.{read-first, read-none}
 use Rattle.tagged_line.proofs.Laying.{content-size}
@@ -28,24 +28,24 @@ use Rattle.append_subrender.specs.declared.prefixed.Prefix.{Prefix}
 -- ---- lines and prefixes in pairs
 
 -- one pair
-pub paired-on : (s : Setup) (rep : Bool) (g : RenderLine) (gs : List RenderLine) (p : List ℕ) (ps : List (List ℕ))
+pub paired-on : (s : RenderOptions) (rep : Bool) (g : RenderLine) (gs : List RenderLine) (p : List ℕ) (ps : List (List ℕ))
     → prefixed s rep (g ∷ gs) (p ∷ ps) ≡ withPrefix s p g ∷ prefixed s rep gs (later rep p ps)
 unfolding prefixed
 paired-on s rep g gs p ps = refl
 
 -- no line is left
-pub paired-none : (s : Setup) (rep : Bool) (ps : List (List ℕ)) → prefixed s rep [] ps ≡ []
+pub paired-none : (s : RenderOptions) (rep : Bool) (ps : List (List ℕ)) → prefixed s rep [] ps ≡ []
 unfolding prefixed
 paired-none s rep ps = refl
 
 -- no prefix is left
-pub paired-out : (s : Setup) (rep : Bool) (gs : List RenderLine) → prefixed s rep gs [] ≡ []
+pub paired-out : (s : RenderOptions) (rep : Bool) (gs : List RenderLine) → prefixed s rep gs [] ≡ []
 unfolding prefixed
 paired-out s rep [] = refl
 paired-out s rep (g ∷ gs) = refl
 
 -- `append_subrender`: the pairs after the old lines.
-pub subrender-lines : (s : Setup) (old guest : List RenderLine) (rep : Bool) (ps : List (List ℕ))
+pub subrender-lines : (s : RenderOptions) (old guest : List RenderLine) (rep : Bool) (ps : List (List ℕ))
     → append-subrender s old guest rep ps ≡ old ++ map (padded s) (prefixed s rep guest ps)
 unfolding append-subrender
 subrender-lines s old guest rep ps = extend-map s old (prefixed s rep guest ps)
@@ -53,24 +53,24 @@ subrender-lines s old guest rep ps = extend-map s old (prefixed s rep guest ps)
 -- ---- cells below each other
 
 -- one cell
-pub cells-on : (s : Setup) (first : Bool) (c : Cell) (cs : List Cell)
+pub cells-on : (s : RenderOptions) (first : Bool) (c : Cell) (cs : List Cell)
     → cellLines s first (c ∷ cs) ≡ between s first ++ (prefixed s true (c .lines) ([] ∷ []) ++ cellLines s false cs)
 unfolding cellLines
 cells-on s first c cs = refl
 
 -- no cell is left
-pub cells-none : (s : Setup) (first : Bool) → cellLines s first [] ≡ []
+pub cells-none : (s : RenderOptions) (first : Bool) → cellLines s first [] ≡ []
 unfolding cellLines
 cells-none s first = refl
 
 -- three lists after the old lines
-pub three-lists : (s : Setup) (old a b c : List RenderLine)
+pub three-lists : (s : RenderOptions) (old a b c : List RenderLine)
     → ((old ++ map (padded s) a) ++ map (padded s) b) ++ map (padded s) c ≡ old ++ map (padded s) (a ++ (b ++ c))
 three-lists s old a b c =
     let f = map (padded s) in
     rw (map-append (padded s) a (b ++ c), map-append (padded s) b c, append-assoc (old ++ f a) (f b) (f c), append-assoc old (f a) (f b ++ f c))
 
-each-lines : (s : Setup) (first : Bool) (old : List RenderLine) (cs : List Cell) → appendEach s first old cs ≡ old ++ map (padded s) (cellLines s first cs)
+each-lines : (s : RenderOptions) (first : Bool) (old : List RenderLine) (cs : List Cell) → appendEach s first old cs ≡ old ++ map (padded s) (cellLines s first cs)
 unfolding appendEach cellLines
 each-lines s first old [] = sym (append-nil old)
 each-lines s first old (c ∷ cs) =
@@ -83,7 +83,7 @@ each-lines s first old (c ∷ cs) =
     ∙ three-lists s old (between s first) new (cellLines s false cs)
 
 -- `append_vert_row`: the cells' lines and the last border after the old lines.
-pub vert-row-lines : (s : Setup) (old : List RenderLine) (cs : List Cell)
+pub vert-row-lines : (s : RenderOptions) (old : List RenderLine) (cs : List Cell)
     → append-vert-row s old cs ≡ (old ++ map (padded s) (cellLines s true cs)) ++ map (padded s) (ifDrawn s (border (s .annotation) (new-type (s .width) Horiz)))
 unfolding append-vert-row
 vert-row-lines s old cs =

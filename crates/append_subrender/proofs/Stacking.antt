@@ -16,12 +16,12 @@ use Rattle.fields.specs.Sheet.{RenderLine, Cell, cell, readLine, readCellConten
 use Rattle.fields.proofs.Fields.{FieldIs}
 use Rattle.borders.specs.BorderSegHoriz.{HorizVert}
 use Rattle.borders.specs.BorderHoriz.{new-type}
-use Rattle.borders.specs.Buffer.{Holds}
+use Rattle.borders.specs.Buffer.{HoldsBorder}
 use Rattle.rows.specs.SubRenderer.{padded, withPrefix, prefixed, between}
-use Rattle.rows.specs.declared.Setup.{Setup}
+use Rattle.rows.specs.declared.RenderOptions.{RenderOptions}
 use Rattle.rows.proofs.Lines.{text-width-nil, well-formed-nil}
 use Rattle.fields.proofs.Readings.{read-first, read-none}
-use Rattle.add_line.specs.Emitted.{InBounds, Next, Emitted, AddsBorder}
+use Rattle.add_line.specs.Emitted.{InBounds, OneLineMore, Emitted, AddsBorder}
 use Rattle.add_line.specs.declared.lines.Lines.{Lines}
 use Rattle.append_subrender.specs.Prefixes.{AddsPrefixed, AddsRule, ruleIf, AddsRuleIf, AddsCell, cellLines, AddsCells}
 use Rattle.append_subrender.proofs.Pairing.{paired-on, paired-none, cells-on, cells-none, three-lists}
@@ -30,24 +30,24 @@ use Rattle.append_subrender.proofs.Adding.{next-bounds, no-lines-read}
 -- ---- a border of one segment
 
 -- the buffer's part is the border
-pub rule-size : (buffer : List ℕ) (n w segment : ℕ) → Holds buffer n (new-type w segment) → length (take n buffer) ≡ w
+pub rule-size : (buffer : List ℕ) (n w segment : ℕ) → HoldsBorder buffer n (new-type w segment) → length (take n buffer) ≡ w
 unfolding new-type
 rule-size buffer n w segment h = ap length (h .segments) ∙ length-replicate w segment
 
 -- A border as wide as the sheet.
-pub adds-rule : (out out′ : List ℕ) (p r : Lines) (s : Setup) (segment n w : ℕ) (buffer : List ℕ) → Holds buffer n (new-type w segment) → w ≡ s .width
+pub adds-rule : (out out′ : List ℕ) (p r : Lines) (s : RenderOptions) (segment n w : ℕ) (buffer : List ℕ) → HoldsBorder buffer n (new-type w segment) → w ≡ s .width
     → AddsBorder out p s (s .annotation) (take n buffer) out′ r → AddsRule out p s segment out′ r
 adds-rule out out′ p r s segment n w buffer h e add st ls em =
     let is : take n buffer ≡ new-type (s .width) segment = h .segments ∙ ap (λ (k : ℕ). new-type k segment) e in
     rw (← is) (add st ls em)
 
 -- Drawn, it is one line more.
-pub rule-drawn : (out out′ : List ℕ) (p r : Lines) (s : Setup) (segment : ℕ) (drawn : Bool) → drawn ≡ true → AddsRule out p s segment out′ r
+pub rule-drawn : (out out′ : List ℕ) (p r : Lines) (s : RenderOptions) (segment : ℕ) (drawn : Bool) → drawn ≡ true → AddsRule out p s segment out′ r
     → AddsRuleIf out p s segment drawn out′ r
 rule-drawn out out′ p r s segment drawn e add st ls em = rw e (add st ls em)
 
 -- Not drawn, it is nothing.
-pub rule-none : (out : List ℕ) (p : Lines) (s : Setup) (segment : ℕ) (drawn : Bool) → drawn ≡ false → AddsRuleIf out p s segment drawn out p
+pub rule-none : (out : List ℕ) (p : Lines) (s : RenderOptions) (segment : ℕ) (drawn : Bool) → drawn ≡ false → AddsRuleIf out p s segment drawn out p
 rule-none out p s segment drawn e st ls em = rw (e, append-nil ls) em
 
 -- ---- the lines of one cell
@@ -59,7 +59,7 @@ none-between n l = let z : n - n ≡ 0 = omega arith in rw z
 pub none-few : (s : List ℕ) (n : ℕ) → length (take (n - n) (drop n s)) < 65536
 none-few s n = omega (arith, ap length (none-between n (drop n s)))
 
-module _ (out : List ℕ) (p : Lines) (s : Setup) (body : List ℕ) where
+module _ (out : List ℕ) (p : Lines) (s : RenderOptions) (body : List ℕ) where
   -- No line is left.
   cell-none : raws body ≡ [] → AddsCell out p s body out p
   cell-none is gs read ok st ls e =
@@ -84,20 +84,20 @@ module _ (out : List ℕ) (p : Lines) (s : Setup) (body : List ℕ) where
       rw (x .are, paired-on s true (x .one) (x .more) [] [], ← append-assoc ls (new ∷ []) (map (padded s) (prefixed s true (x .more) ([] ∷ [])))) e₂
 
 -- Up to a place of the cell its lines are added, and those from it on are left.
-pub record InCell (out₀ : List ℕ) (p : Lines) (s : Setup) (body out : List ℕ) (q : Lines) (at : ℕ) : Type 0 where
+pub record InCell (out₀ : List ℕ) (p : Lines) (s : RenderOptions) (body out : List ℕ) (q : Lines) (at : ℕ) : Type 0 where
   pub size : length out ≡ length out₀
   pub inside : at ≤ length body
   pub bounds : InBounds q
   pub count : 3 * q .count ≤ 3 * p .count + at
   pub lines : (out′ : List ℕ) (r : Lines) → AddsCell out q s (drop at body) out′ r → AddsCell out₀ p s body out′ r
 
-pub within-start : (out : List ℕ) (p : Lines) (s : Setup) (body : List ℕ) → InBounds p → InCell out p s body out p 0
+pub within-start : (out : List ℕ) (p : Lines) (s : RenderOptions) (body : List ℕ) → InBounds p → InCell out p s body out p 0
 within-start out p s body h = record { size = refl; inside = omega arith; bounds = h; count = omega arith; lines = λ out′ r others. others }
 
-module _ (out₀ : List ℕ) (p : Lines) (s : Setup) (body out : List ℕ) (q : Lines) (at : ℕ) (w : InCell out₀ p s body out q at) where
+module _ (out₀ : List ℕ) (p : Lines) (s : RenderOptions) (body out : List ℕ) (q : Lines) (at : ℕ) (w : InCell out₀ p s body out q at) where
   -- one line on
   pub within-on : (letter start next : ℕ) (out′ : List ℕ) (r : Lines) → 3 * p .count + length body < 3000000 → FieldIs body at letter start next
-      → Next q r → length out′ ≡ length out
+      → OneLineMore q r → length out′ ≡ length out
       → AddsPrefixed out q s (take (start - start) (drop start body)) 0 letter (take (next - start) (drop start body)) out′ r
       → InCell out₀ p s body out′ r next
   within-on letter start next out′ r few f more same one =
@@ -125,15 +125,15 @@ module _ (out₀ : List ℕ) (p : Lines) (s : Setup) (body out : List ℕ) (q : 
 -- ---- the cells one after the other
 
 -- a border is drawn between two cells
-abbrev drawsBetween : Setup → Bool → Bool
+abbrev drawsBetween : RenderOptions → Bool → Bool
 drawsBetween s first = if first then false else s .borders
 
-between-is : (s : Setup) (first : Bool) → between s first ≡ ruleIf s HorizVert (drawsBetween s first)
+between-is : (s : RenderOptions) (first : Bool) → between s first ≡ ruleIf s HorizVert (drawsBetween s first)
 between-is s true = refl
 between-is s false = refl
 
 -- the cells that are left, the first of all among them or not
-abbrev AddsFrom : Bool → List ℕ → Lines → Setup → List ℕ → List ℕ → Lines → Type 0
+abbrev AddsFrom : Bool → List ℕ → Lines → RenderOptions → List ℕ → List ℕ → Lines → Type 0
 AddsFrom first out p s cells out′ r =
     (cs : List Cell) → readAll readCell (raws cells) ≡ some cs → all readableCell cs ≡ true
     → (st : List ℕ) (ls : List RenderLine) → Emitted st ls out p → Emitted st (ls ++ map (padded s) (cellLines s first cs)) out′ r
@@ -164,7 +164,7 @@ no-cells-read : (cs : List Cell) → readAll readCell (broken ∷ []) ≡ some c
 unfolding readCell
 no-cells-read cs e = let x = read-first readCell broken [] cs e .first in let z : _≡_ {A = ℕ} 0 1 = cc in omega arith
 
-module _ (first : Bool) (out : List ℕ) (p : Lines) (s : Setup) (cells : List ℕ) where
+module _ (first : Bool) (out : List ℕ) (p : Lines) (s : RenderOptions) (cells : List ℕ) where
   -- No cell is left.
   from-none : raws cells ≡ [] → AddsFrom first out p s cells out p
   from-none is cs read ok st ls e =
@@ -200,7 +200,7 @@ module _ (first : Bool) (out : List ℕ) (p : Lines) (s : Setup) (cells : List �
       rw (x .are, cells-on s first (x .one) (x .more), ← three-lists s ls (between s first) new (cellLines s false (x .more))) e₃
 
 -- Up to a place the cells are added, and those from it on are left.
-pub record Stack (out₀ : List ℕ) (p : Lines) (s : Setup) (cells out : List ℕ) (q : Lines) (drawn : Bool) (at : ℕ) : Type 0 where
+pub record Stack (out₀ : List ℕ) (p : Lines) (s : RenderOptions) (cells out : List ℕ) (q : Lines) (drawn : Bool) (at : ℕ) : Type 0 where
   pub size : length out ≡ length out₀
   pub inside : at ≤ length cells
   pub bounds : InBounds q
@@ -209,7 +209,7 @@ pub record Stack (out₀ : List ℕ) (p : Lines) (s : Setup) (cells out : List �
   pub sep : drawn ≡ drawsBetween s first
   pub lines : (out′ : List ℕ) (r : Lines) → AddsFrom first out q s (drop at cells) out′ r → AddsCells out₀ p s cells out′ r
 
-pub stack-start : (out : List ℕ) (p : Lines) (s : Setup) (cells : List ℕ) → InBounds p → p .count ≤ 65535 → length (raws cells) ≤ 16
+pub stack-start : (out : List ℕ) (p : Lines) (s : RenderOptions) (cells : List ℕ) → InBounds p → p .count ≤ 65535 → length (raws cells) ≤ 16
     → Stack out p s cells out p false 0
 stack-start out p s cells h k n =
     record {
@@ -230,7 +230,7 @@ width-first s at letter start next f h =
     let n : next - start ≡ suc (next - suc start) = omega arith in
     rw (one, n, drop-cons s start 0 (omega (arith, f .inside)))
 
-module _ (out₀ : List ℕ) (p : Lines) (s : Setup) (cells out : List ℕ) (q : Lines) (drawn : Bool) (at : ℕ) (w : Stack out₀ p s cells out q drawn at)
+module _ (out₀ : List ℕ) (p : Lines) (s : RenderOptions) (cells out : List ℕ) (q : Lines) (drawn : Bool) (at : ℕ) (w : Stack out₀ p s cells out q drawn at)
     (letter start next : ℕ) (f : FieldIs cells at letter start next) (q₁ : Lines) (k₁ : q₁ .count ≤ q .count + 1) where
   fewer : length (raws (drop at cells)) ≡ suc (length (raws (drop next cells)))
   fewer = ap length (f .fields)
@@ -273,7 +273,7 @@ module _ (out₀ : List ℕ) (p : Lines) (s : Setup) (cells out : List ℕ) (q :
         lines = λ out″ z others. w .lines out″ z (from-empty (w .first) out q s (drop at cells) out″ z letter _ (drop next cells) (f .fields) none-there);
       }
 
-module _ (out₀ : List ℕ) (p : Lines) (s : Setup) (cells out : List ℕ) (q : Lines) (drawn : Bool) (at : ℕ) (w : Stack out₀ p s cells out q drawn at) where
+module _ (out₀ : List ℕ) (p : Lines) (s : RenderOptions) (cells out : List ℕ) (q : Lines) (drawn : Bool) (at : ℕ) (w : Stack out₀ p s cells out q drawn at) where
   -- its lines are few
   pub stack-few : q .count < 1000000
   stack-few = omega (arith, w .few)

@@ -12,7 +12,7 @@ use Rattle.fields.specs.Text.{readableText}
 use Rattle.fields.specs.Sheet.{RenderLine, border, readLine, readableLine, readPrefix, Cell, readCell, readableCell}
 use Rattle.fields.specs.Widths.{text-width}
 use Rattle.borders.specs.BorderHoriz.{new-type}
-use Rattle.rows.specs.declared.Setup.{Setup}
+use Rattle.rows.specs.declared.RenderOptions.{RenderOptions}
 use Rattle.block.specs.Demands.{WellFormed}
 use Rattle.rows.specs.SubRenderer.{padded, withPrefix, later, prefixed, between}
 use Rattle.add_line.specs.Emitted.{Emitted}
@@ -66,13 +66,13 @@ noPrefix = record { found = false; from = 0; to = 0; cols = 0 }
 -- ---- lines
 
 -- one line behind its prefix
-abbrev pub AddsPrefixed : List ℕ → Lines → Setup → List ℕ → ℕ → ℕ → List ℕ → List ℕ → Lines → Type 0
+abbrev pub AddsPrefixed : List ℕ → Lines → RenderOptions → List ℕ → ℕ → ℕ → List ℕ → List ℕ → Lines → Type 0
 AddsPrefixed out p s prefix cols letter content out′ r =
     (g : RenderLine) → readLine (whole letter content) ≡ some g → readableLine g ≡ true → WellFormed prefix → text-width prefix ≡ cols
     → (st : List ℕ) (ls : List RenderLine) → Emitted st ls out p → Emitted st (ls ++ (padded s (withPrefix s prefix g) ∷ [])) out′ r
 
 -- all pairs
-abbrev pub AddsGuest : List ℕ → Lines → Setup → List ℕ → List ℕ → Bool → List ℕ → Lines → Type 0
+abbrev pub AddsGuest : List ℕ → Lines → RenderOptions → List ℕ → List ℕ → Bool → List ℕ → Lines → Type 0
 AddsGuest out p s guest prefixes rep out′ r =
     (gs : List RenderLine) (ps : List (List ℕ)) → readAll readLine (raws guest) ≡ some gs → all readableLine gs ≡ true
     → readAll readPrefix (raws prefixes) ≡ some ps → all (readableText false) ps ≡ true
@@ -81,33 +81,33 @@ AddsGuest out p s guest prefixes rep out′ r =
 -- ---- cells
 
 -- a border of one segment
-abbrev pub AddsRule : List ℕ → Lines → Setup → ℕ → List ℕ → Lines → Type 0
+abbrev pub AddsRule : List ℕ → Lines → RenderOptions → ℕ → List ℕ → Lines → Type 0
 AddsRule out p s segment out′ r =
     (st : List ℕ) (ls : List RenderLine) → Emitted st ls out p
     → Emitted st (ls ++ (padded s (border (s .annotation) (new-type (s .width) segment)) ∷ [])) out′ r
 
 -- a border of one segment, or nothing where it is not drawn
-abbrev pub ruleIf : Setup → ℕ → Bool → List RenderLine
+abbrev pub ruleIf : RenderOptions → ℕ → Bool → List RenderLine
 ruleIf s segment drawn = if drawn then border (s .annotation) (new-type (s .width) segment) ∷ [] else []
 
 -- the same, added
-abbrev pub AddsRuleIf : List ℕ → Lines → Setup → ℕ → Bool → List ℕ → Lines → Type 0
+abbrev pub AddsRuleIf : List ℕ → Lines → RenderOptions → ℕ → Bool → List ℕ → Lines → Type 0
 AddsRuleIf out p s segment drawn out′ r =
     (st : List ℕ) (ls : List RenderLine) → Emitted st ls out p → Emitted st (ls ++ map (padded s) (ruleIf s segment drawn)) out′ r
 
 -- the lines of one cell, with an empty prefix that repeats
-abbrev pub AddsCell : List ℕ → Lines → Setup → List ℕ → List ℕ → Lines → Type 0
+abbrev pub AddsCell : List ℕ → Lines → RenderOptions → List ℕ → List ℕ → Lines → Type 0
 AddsCell out p s body out′ r =
     (gs : List RenderLine) → readAll readLine (raws body) ≡ some gs → all readableLine gs ≡ true
     → (st : List ℕ) (ls : List RenderLine) → Emitted st ls out p → Emitted st (ls ++ map (padded s) (prefixed s true gs ([] ∷ []))) out′ r
 
 -- the lines that cells add, below each other
-unfoldable pub cellLines : Setup → Bool → List Cell → List RenderLine
+unfoldable pub cellLines : RenderOptions → Bool → List Cell → List RenderLine
 cellLines s first [] = []
 cellLines s first (c ∷ cs) = between s first ++ (prefixed s true (c .lines) ([] ∷ []) ++ cellLines s false cs)
 
 -- all cells
-abbrev pub AddsCells : List ℕ → Lines → Setup → List ℕ → List ℕ → Lines → Type 0
+abbrev pub AddsCells : List ℕ → Lines → RenderOptions → List ℕ → List ℕ → Lines → Type 0
 AddsCells out p s cells out′ r =
     (cs : List Cell) → readAll readCell (raws cells) ≡ some cs → all readableCell cs ≡ true
     → (st : List ℕ) (ls : List RenderLine) → Emitted st ls out p → Emitted st (ls ++ map (padded s) (cellLines s true cs)) out′ r

@@ -1,10 +1,10 @@
 // A guest's lines behind their prefixes. What a function here requires, its callers in this crate show.
 use add_line::lines::Lines;
-use add_line::lines::end_line;
+use add_line::lines::add_text_line;
 use borders::draw::drawn_len;
 use fields::field::Field;
 use fields::field::field_at;
-use rows::Setup;
+use rows::RenderOptions;
 use tagged_line::line::new_line;
 use tagged_line::line::push_drawn;
 use tagged_line::line::push_str;
@@ -14,7 +14,7 @@ ghost use mathlib.Core.Path.{_≡_};
 ghost use Prim.Native.Nat.{_+_, _≤_, _<_};
 ghost use lib.ListN.{length};
 ghost use Rattle.fields.specs.Field.{raws};
-ghost use Rattle.add_line.specs.Emitted.{InBounds, Next};
+ghost use Rattle.add_line.specs.Emitted.{InBounds, OneLineMore};
 ghost use Rattle.append_subrender.specs.Prefixes.{Placed, again, Steps, AddsPrefixed, AddsGuest};
 
 // The prefix of the next line, from one place to another of the prefixes' bytes, and its columns; or that there is none.
@@ -30,30 +30,30 @@ pub struct Prefix {
 pub fn add_prefixed(
     out: &mut [u8],
     lines: Lines,
-    setup: Setup,
+    options: RenderOptions,
     prefix: &[u8],
     cols: usize,
     letter: u8,
     content: &[u8],
 ) -> Lines
     requires { ⌜ InBounds lines × (length (now prefix) < 65536) × (cols ≤ 131070) × (length (now content) < 65536) ⌝ }
-    ensures { λ r. ⌜ Next lines r ⌝ }
-    ensures { λ r. ⌜ AddsPrefixed (now (out .entry)) lines setup (now (prefix .entry)) cols letter (now (content .entry)) (now (out .exit)) r ⌝ }
+    ensures { λ r. ⌜ OneLineMore lines r ⌝ }
+    ensures { λ r. ⌜ AddsPrefixed (now (out .entry)) lines options (now (prefix .entry)) cols letter (now (content .entry)) (now (out .exit)) r ⌝ }
 {
-    let annotation = setup.annotation;
+    let annotation = options.annotation;
     let line = new_line(lines.at);
     let head = push_str(out, line, annotation, prefix, cols);
     if letter == b'L' {
         let whole = add_pieces(out, head, content, true, false);
-        return end_line(out, lines, whole, setup);
+        return add_text_line(out, lines, whole, options);
     }
     if content.len() < 1 {
-        return end_line(out, lines, head, setup);
+        return add_text_line(out, lines, head, options);
     }
     let segs = &content[1..];
     let n = drawn_len(segs, false);
     let drawn = push_drawn(out, head, annotation, segs, n, 0, false);
-    end_line(out, lines, drawn, setup)
+    add_text_line(out, lines, drawn, options)
 }
 
 // The last prefix, which stays only if it repeats.
@@ -99,14 +99,14 @@ fn next_prefix(prefixes: &[u8], prefix: Prefix, repeats: bool) -> Prefix
 pub fn add_guest(
     out: &mut [u8],
     lines: Lines,
-    setup: Setup,
+    options: RenderOptions,
     guest: &[u8],
     prefixes: &[u8],
     repeats: bool,
 ) -> Lines
     requires { ⌜ InBounds lines × (lines .count + length (raws (now guest)) < 1000000) ⌝ }
     ensures { λ r. ⌜ InBounds r × (r .count ≤ lines .count + length (raws (now (guest .entry)))) ⌝ }
-    ensures { λ r. ⌜ AddsGuest (now (out .entry)) lines setup (now (guest .entry)) (now (prefixes .entry)) repeats (now (out .exit)) r ⌝ }
+    ensures { λ r. ⌜ AddsGuest (now (out .entry)) lines options (now (guest .entry)) (now (prefixes .entry)) repeats (now (out .exit)) r ⌝ }
 {
     let mut next = lines;
     let mut prefix = Prefix {
@@ -133,7 +133,7 @@ pub fn add_guest(
                 next = add_prefixed(
                     out,
                     next,
-                    setup,
+                    options,
                     &prefixes[from..to],
                     prefix.cols,
                     letter,

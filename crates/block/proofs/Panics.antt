@@ -28,9 +28,9 @@ use Rattle.block.specs.Answer.{charsOr, add-field, add-fields}
 use Rattle.block.specs.Flat.{Item, char, name, Line, columns, pushChar, spaces, Block, new, withWrapped, left, flushLine, dropBlanks, startsPre, carryOn, flushWord, Walk, walk, step, addField, addFields}
 use Rattle.block.specs.Panics.{IsSome, width-safe, without-front-safe, without-end-safe, flush-line-safe, walk-safe, split-at-safe, split-piece-safe, put-rest-safe, hard-wrap-elements-safe, flush-word-hard-wrap-safe, at-wrap-safe, match-spacetag-safe, write-one-safe, write-remaining-safe, not-enough-space-safe, flush-word-safe, newline-safe, tab-loop-safe, tab-safe, blank-safe, add-char-safe, add-chars-safe, add-text-safe, into-lines-safe, add-field-safe, add-fields-safe, lines-safe}
 use Rattle.block.proofs.Results.{good-bind, good-map, good-both}
-use Rattle.block.proofs.Width.{columns-append, Fits, fits-carried, fits-word, fits-step, fits-field}
+use Rattle.block.proofs.Width.{columns-append, BlockWithin, fits-carried, fits-word, fits-step, fits-field}
 use Rattle.block.proofs.Clean.{Counted as Brought, Brings, Clean, clean-carried, clean-word, clean-step, clean-field}
-use Rattle.block.proofs.Group.{glue, group, tline, inks, columns-inks, push-text, push-item, push-spaces, group-width, tline-width, group-mode, trim-length, trim-width, end-width, sum-backwards}
+use Rattle.block.proofs.Group.{glue, group, tline, tagged-chars, columns-tagged-chars, push-text, push-item, push-spaces, group-width, tline-width, group-mode, trim-length, trim-width, end-width, sum-backwards}
 use Rattle.block.proofs.Same.{Match, match-bind, match-and, match-good, by-both, block-of, Pending, Carried, before-wrap, if-wrapped, Like, word-same, LikeW, step-same}
 use Rattle.block.proofs.Fuel.{Stops, walk-stops, Counted, none-wide, rest-length, rest-counted, rest-empty, shrinks}
 use Rattle.block.proofs.Equal.{field-same, passes-wide, refusal-at}
@@ -146,7 +146,7 @@ module _ (p : TaggedString Tag) where
   unfolding split-at-safe
   split-of h q g x =
       let part = take (q .split-idx) (drop (h .bpos) (p .s)) in
-      (split-inside h q g x, λ _. rw (g .at .is-line, push-text (g .at .line) part (p .tag)) (line-safe (g .at .line ++ inks part (p .tag))))
+      (split-inside h q g x, λ _. rw (g .at .is-line, push-text (g .at .line) part (p .tag)) (line-safe (g .at .line ++ tagged-chars part (p .tag))))
 
   going-on : (h : Hard) (q : Walked) → Going p h → Stopped h q → Going p (split-at p h q)
   going-on h q g x = record {
@@ -196,9 +196,9 @@ module _ (p : TaggedString Tag) where
   put-on : (h : Hard) (x : List ℕ) → Room h → str-width x ≤ h .lineleft
       → Room (record { self = set-line (push (h .self .line) (Str (tagged x (p .tag)))) (h .self); lineleft = h .lineleft - str-width x; wpos = h .wpos; bpos = h .bpos })
   put-on h x g fits = record {
-    line = g .line ++ inks x (p .tag);
+    line = g .line ++ tagged-chars x (p .tag);
     is-line = rw (g .is-line) (push-text (g .line) x (p .tag));
-    room = omega (arith, g .room, columns-append (g .line) (inks x (p .tag)), columns-inks x (p .tag));
+    room = omega (arith, g .room, columns-append (g .line) (tagged-chars x (p .tag)), columns-tagged-chars x (p .tag));
   }
 
   room-rest : (h : Hard) → Over p h → Room (put-rest p h)
@@ -293,7 +293,7 @@ module _ (s : Setup) where
   module _ (positive : 0 < s .width) where
     -- the line fits, and each character of the block has a column count
     abbrev Fit : Block → Type 0
-    Fit b = Fits s (s .width + 2) b × Clean Known known-space s b
+    Fit b = BlockWithin s (s .width + 2) b × Clean Known known-space s b
 
     wrap-of : (b : Block) (n k : ℕ) → Pending (b .wslen) (b .spacetag) → columns (b .word) ≤ n → Fit b
         → not-enough-space-safe (first-mode (group (b .word))) (left s b) (block-of s n k (withWrapped false b))
@@ -327,7 +327,7 @@ module _ (s : Setup) where
     word-on b r ((n, e, h, g), (fits, clean)) =
         rw e
         (match-and (Like s) Fit (flushWord s b) _ (word-same s positive b n h g)
-        (good-both (Fits s (s .width + 2)) (Clean Known known-space s) (flushWord s b) (fits-word s positive (s .width + 2) (omega arith) (λ _. omega arith) b fits) (clean-word Known known-space s b clean)))
+        (good-both (BlockWithin s (s .width + 2)) (Clean Known known-space s) (flushWord s b) (fits-word s positive (s .width + 2) (omega arith) (λ _. omega arith) b fits) (clean-word Known known-space s b clean)))
 
     -- the open line of such a block
     sound-lined : (b : Block) (r : WrappedBlock) → Sound b r → Lined r
@@ -371,7 +371,7 @@ module _ (s : Setup) where
     step-on : (m : Mode) (main wrap c : ℕ) (w : Walk) (v : Text) → SoundW w v → Match SoundW (step s m main wrap c w) (add-char m main wrap c v)
     step-on m main wrap c w v (like, (fits, clean)) =
         match-and (LikeW s) (λ (x : Walk). Fit (x .block)) (step s m main wrap c w) _ (step-same s positive m main wrap c w v like)
-        (good-both (λ (x : Walk). Fits s (s .width + 2) (x .block)) (λ (x : Walk). Clean Known known-space s (x .block)) (step s m main wrap c w)
+        (good-both (λ (x : Walk). BlockWithin s (s .width + 2) (x .block)) (λ (x : Walk). Clean Known known-space s (x .block)) (step s m main wrap c w)
         (fits-step s positive (s .width + 2) (omega arith) (λ _. omega arith) m main wrap c w fits) (clean-step Known known-space s m main wrap c w (brought c) clean))
       where
         brought : (c : ℕ) → Brought Known (widthOf c) c
@@ -395,7 +395,7 @@ module _ (s : Setup) where
     field-on : (f : JobField) (b : Block) (r : WrappedBlock) → Sound b r → Match Sound (addField s f b) (add-field f r)
     field-on f b r (like, (fits, clean)) =
         match-and (Like s) Fit (addField s f b) _ (field-same s positive f b r like)
-        (good-both (Fits s (s .width + 2)) (Clean Known known-space s) (addField s f b) (fits-field s positive (s .width + 2) (omega arith) (λ _. omega arith) f b fits) (clean-field Known known-space s f b (brings f) clean))
+        (good-both (BlockWithin s (s .width + 2)) (Clean Known known-space s) (addField s f b) (fits-field s positive (s .width + 2) (omega arith) (λ _. omega arith) f b fits) (clean-field Known known-space s f b (brings f) clean))
       where
         all-brought : (cs : List ℕ) → Every (λ (c : ℕ). Brought Known (widthOf c) c) cs
         all-brought [] = tt

@@ -36,7 +36,7 @@ use fields::field::wide;
 use libc::STDIN_FILENO;
 use libc::STDOUT_FILENO;
 use render::render;
-use rows::Setup;
+use rows::RenderOptions;
 ghost use Prim.Native.Nat.{_<_};
 
 // What fills the store before the call.
@@ -45,7 +45,7 @@ const FILL: u8 = 0xEE;
 // Which call a record asks for, what comes with it, and its own flag: whether the last prefix repeats, or whether to collapse.
 struct Call {
     kind: u8,
-    setup: Setup,
+    options: RenderOptions,
     flag: bool,
 }
 
@@ -102,7 +102,7 @@ fn read_head() -> Head {
     let flags = head[2];
     Head::Asked(Call {
         kind: head[0],
-        setup: Setup {
+        options: RenderOptions {
             width: head[1],
             pad: flags & 1 != 0,
             borders: flags & 2 != 0,
@@ -199,12 +199,12 @@ fn says(rendered: Rendered, answer: Answer) -> bool {
 // The call that a record asks for. The first input is a job or a sheet, the second a guest sheet or cells; `append_subrender` alone has a third.
 fn run(call: Call, old: &[u8], guest: &[u8], prefixes: &[u8], store: &mut [u8]) -> Rendered {
     let kind = call.kind;
-    let setup = call.setup;
+    let options = call.options;
     match kind {
         0 => render(old, store),
-        1 => append_subrender(setup, old, guest, prefixes, call.flag, store),
-        2 => append_columns_with_borders(setup, old, guest, call.flag, store),
-        _ => append_vert_row(setup, old, guest, store),
+        1 => append_subrender(options, old, guest, prefixes, call.flag, store),
+        2 => append_columns_with_borders(options, old, guest, call.flag, store),
+        _ => append_vert_row(options, old, guest, store),
     }
 }
 

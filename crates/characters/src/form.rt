@@ -6,7 +6,7 @@ ghost use Prim.Native.Nat.{_<_};
 ghost use Rattle.characters.specs.Forms.{inRange, secondFrom, secondTo, more, two, three, four};
 
 // A byte as a code point.
-pub fn wide(x: u8) -> u32
+pub fn widened(x: u8) -> u32
     ensures { λ r. ⌜ r ≡ x ⌝ }
 {
     x as u32
@@ -50,7 +50,7 @@ fn add_six(acc: u32, b: u8) -> u32
     requires { ⌜ acc < 65536 ⌝ }
     ensures { λ r. ⌜ r ≡ more acc b ⌝ }
 {
-    acc << 6 | (wide(b) & 63)
+    acc << 6 | (widened(b) & 63)
 }
 
 // The form of two bytes.
@@ -62,7 +62,7 @@ pub fn two_bytes(a: u8, b: u8) -> Decoded
     }
     if in_range(0x80, 0xBF, b) {
         Decoded::Char {
-            code: add_six(wide(a & 31), b),
+            code: add_six(widened(a & 31), b),
             len: 2,
         }
     } else {
@@ -81,7 +81,7 @@ pub fn three_bytes(a: u8, b: u8, c: u8) -> Decoded
         return Decoded::Bad;
     }
     Decoded::Char {
-        code: add_six(add_six(wide(a & 15), b), c),
+        code: add_six(add_six(widened(a & 15), b), c),
         len: 3,
     }
 }
@@ -103,7 +103,7 @@ pub fn four_bytes(a: u8, b: u8, c: u8, d: u8) -> Decoded
         return Decoded::Bad;
     }
     Decoded::Char {
-        code: add_six(add_six(add_six(wide(a & 7), b), c), d),
+        code: add_six(add_six(add_six(widened(a & 7), b), c), d),
         len: 4,
     }
 }

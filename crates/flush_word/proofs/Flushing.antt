@@ -12,8 +12,8 @@ use Rattle.fields.specs.Job.{Mode, normal, pre, preWrap}
 use Rattle.fields.specs.declared.job.Setup.{Setup}
 use Rattle.block.specs.Tag.{Tag}
 use Rattle.block.specs.Flat.{Block, columns, hasText, spaces, trimBack, withLine, withBlanks, withWrapped, left, blanks, putWord, atWrap, dropBlanks}
-use Rattle.block.specs.Neat.{Neat}
-use Rattle.block.proofs.Neats.{neat-put-wrapped}
+use Rattle.block.specs.TrimsLeaveText.{TrimsLeaveText}
+use Rattle.block.proofs.NonSpaces.{trims-put-wrapped}
 use Rattle.block.proofs.Width.{columns-append, columns-spaces}
 use Rattle.lines.specs.Items.{item, items}
 use Rattle.lines.specs.Bridge.{num, modeNo, enc, Valid}
@@ -22,7 +22,7 @@ use Rattle.lines.proofs.Encoded.{enc-append, enc-spaces, valid-append, valid-sp
 use Rattle.hard_wrap.specs.Hold.{setup, Holds}
 use Rattle.hard_wrap.specs.declared.line.Frame.{Frame}
 use Rattle.hard_wrap.specs.declared.line.Open.{Open}
-use Rattle.flush_word.specs.Keep.{noWord, noBlanks, Pends, Keeps, Small, Dropped-is, KeepsPre, TrimsLine}
+use Rattle.flush_word.specs.Keep.{noWord, noBlanks, Pends, Keeps, CountsWithinUnits, Dropped-is, KeepsPre, TrimsLine}
 use Rattle.flush_word.specs.declared.state.Blanks.{Blanks}
 use Rattle.flush_word.specs.declared.state.State.{State}
 use Rattle.flush_word.specs.declared.space.Dropped.{Dropped}
@@ -60,7 +60,7 @@ keeps-same {d₀} {base} {b} {st} {r} {lb} {lt} {wb} {wt} {out} e k = subst (λ 
 
 -- a line that is held, and nothing pending
 pub keeps-opened : {d₀ : List ℕ} {base : ℕ} {b : Block} {o : Open} {p : Bool} {lb lt out : List ℕ} (u : ℕ) (wb wt : List ℕ) → Holds d₀ base b o lb lt out
-    → b .word ≡ [] → b .wslen ≡ 0 → b .spacetag ≡ none → b .preWrapped ≡ p → Neat b → Keeps d₀ base b (opened o p u) lb lt wb wt out
+    → b .word ≡ [] → b .wslen ≡ 0 → b .spacetag ≡ none → b .preWrapped ≡ p → TrimsLeaveText b → Keeps d₀ base b (opened o p u) lb lt wb wt out
 unfolding enc columns hasText
 keeps-opened u wb wt o w n t p h =
     record {
@@ -72,14 +72,14 @@ keeps-opened u wb wt o w n t p h =
       count = sym n;
       pends = rw t refl;
       wrapped = sym p;
-      neat = h;
+      trims = h;
     }
 
 -- its numbers
 pub small-opened : {frame : Frame} {o : Open} {p : Bool} {u : ℕ} {r : State} → opened o p u ≡ r → u ≤ 4096 → o .n ≤ u + o .cols → o .cols ≤ frame .width
-    → o .place + 65538 * min 1 (o .n) ≤ 65538 * (16 * u + 1) → o .lines ≤ o .place → Small frame r × (r .used ≡ u)
+    → o .place + 65538 * min 1 (o .n) ≤ 65538 * (16 * u + 1) → o .lines ≤ o .place → CountsWithinUnits frame r × (r .used ≡ u)
 small-opened {frame} {o} {p} {u} e h n k m l =
-    subst (λ (z : State). Small frame z × (z .used ≡ u)) e (
+    subst (λ (z : State). CountsWithinUnits frame z × (z .used ≡ u)) e (
       record {
         used = h;
         word = omega arith;
@@ -138,7 +138,7 @@ module _ (st : State) (d₀ : List ℕ) (base : ℕ) (b : Block) (lb lt wb wt lb
   -- The word and its blanks are on the line.
   pub put-keeps : hasText (b .word) ≡ true → Keeps d₀ base (putWord (withWrapped false b)) (opened (puton st n) false (st .used)) lb′ lt′ wb wt out
   unfolding putWord
-  put-keeps h = keeps-opened (st .used) wb wt put-holds refl refl refl refl (neat-put-wrapped false b (o .neat) h)
+  put-keeps h = keeps-opened (st .used) wb wt put-holds refl refl refl refl (trims-put-wrapped false b (o .trims) h)
 
 -- none of them
 pub count-none : {p : Blanks} → p ≡ noBlanks → p .count ≡ 0

@@ -221,9 +221,9 @@ unfolding trim tagged
 trim-named [] l = refl
 trim-named (b ∷ n) l = ap (putFront (item b nameTag)) (trim-named n l) ∙ put-solid (item b nameTag) (tagged nameTag n ++ trim l) (and-false (eqb b 0x20))
 
-keep-ink : (c : ℕ) (t : Tag) (l : Line) → eqb c 0x20 ≡ false → keepLast (char c t) l ≡ char c t ∷ l
-keep-ink c t [] e = rw e
-keep-ink c t (x ∷ l) e = refl
+keep-non-space : (c : ℕ) (t : Tag) (l : Line) → eqb c 0x20 ≡ false → keepLast (char c t) l ≡ char c t ∷ l
+keep-non-space c t [] e = rw e
+keep-non-space c t (x ∷ l) e = refl
 
 -- a space goes where nothing is left behind it
 put-space : (t : Tag) (l : Line) → t .ann < 256 → putFront (item 0x20 (num t)) (enc l) ≡ enc (keepLast (char 0x20 t) l)
@@ -242,7 +242,7 @@ module _ (t : Tag) (l m : Line) (h : t .ann < 256) (e : trim (enc l) ≡ enc m) 
   trim-char c true q = rw (eqb-true c 0x20 q) trim-space
   trim-char c false q =
       trim-solid (num t) (utf8 c) (enc l) (utf8-solid c q) ∙ ap (λ (z : List Item). tagged (num t) (utf8 c) ++ z) e
-      ∙ ap enc (sym (keep-ink c t m q))
+      ∙ ap enc (sym (keep-non-space c t m q))
 
 trim-enc : (l : Line) → Valid l → trim (enc l) ≡ enc (trimBack l)
 unfolding trim enc trimBack
@@ -277,7 +277,7 @@ even-space t l (x ∷ m) e = even-char 0x20 t l (x ∷ m) e
 
 even-keep : (c : ℕ) (t : Tag) (l m : Line) (b : Bool) → eqb c 0x20 ≡ b → Evenly l m → Evenly (char c t ∷ l) (keepLast (char c t) m)
 even-keep c t l m true q e = rw (eqb-true c 0x20 q) (even-space t l m e)
-even-keep c t l m false q e = rw (keep-ink c t m q) (even-char c t l m e)
+even-keep c t l m false q e = rw (keep-non-space c t m q) (even-char c t l m e)
 
 trim-even : (l : Line) → Evenly l (trimBack l)
 unfolding trimBack columns
@@ -309,8 +309,8 @@ module _ (lb lt : List ℕ) where
     kept : blank (item (getD lb (k - 1) 0) (getD lt (k - 1) 0)) ≡ false → trim (items lb lt k) ≡ items lb lt k
     kept e = ap trim last ∙ trim-kept (items lb lt (k - 1)) _ e ∙ sym last
 
-    pub back-ink : (getD lb (k - 1) 0 ≡ 0x20 → ⊥) → trim (items lb lt k) ≡ items lb lt k
-    back-ink n = kept (rw (ne-eqb (getD lb (k - 1) 0) 0x20 n))
+    pub back-non-space : (getD lb (k - 1) 0 ≡ 0x20 → ⊥) → trim (items lb lt k) ≡ items lb lt k
+    back-non-space n = kept (rw (ne-eqb (getD lb (k - 1) 0) 0x20 n))
 
     pub back-name : markTag ≤ getD lt (k - 1) 0 → trim (items lb lt k) ≡ items lb lt k
     back-name h = kept (rw (le-ltb (getD lt (k - 1) 0) markTag h) (and-false (eqb (getD lb (k - 1) 0) 0x20)))

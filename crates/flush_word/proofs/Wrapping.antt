@@ -17,8 +17,8 @@ use Rattle.fields.specs.declared.job.Setup.{Setup}
 use Rattle.block.specs.Tag.{Tag, tag}
 use Rattle.block.specs.Result.{Result, good, tooNarrow, OnGood}
 use Rattle.block.specs.Flat.{Line, char, name, Block, columns, hasText, trimFront, withWord, withWrapped, left, onLine, forceFlushLine, flushLine, flushWordHardWrap, putWord, atWrap, dropBlanks, writeBlank, writeBlanks, startsPre, carryOn, wrapWord, flushWord}
-use Rattle.block.specs.Neat.{Neat}
-use Rattle.block.proofs.Neats.{texted, neat-drop, neat-wrap}
+use Rattle.block.specs.TrimsLeaveText.{TrimsLeaveText}
+use Rattle.block.proofs.NonSpaces.{texted, trims-drop, trims-wrap}
 use Rattle.lines.specs.Items.{items, zip}
 use Rattle.lines.specs.Bridge.{num, enc, Valid}
 use Rattle.lines.proofs.Kept.{Kept, hard-keeps}
@@ -29,7 +29,7 @@ use Rattle.hard_wrap.specs.declared.line.Open.{Open}
 use Rattle.hard_wrap.specs.declared.wrap.Wrapped.{Wrapped}
 use Rattle.hard_wrap.specs.declared.wrap.Wrapped.the-variants.{Done, Narrow}
 use Rattle.hard_wrap.proofs.Blanks.{holds-same, blanks-none}
-use Rattle.flush_word.specs.Keep.{Keeps, Left, Dropped-is, Opens, StartsAt, StartsPre, Puts, Next, ResultIs, WrapsWord}
+use Rattle.flush_word.specs.Keep.{Keeps, BlanksLeft, Dropped-is, OpensLine, StartsAt, StartsPre, PutsWord, NextBlock, ResultIs, WrapsWord}
 use Rattle.flush_word.specs.declared.state.Blanks.{Blanks}
 use Rattle.flush_word.specs.declared.state.State.{State}
 use Rattle.flush_word.specs.declared.state.Flushed.{Flushed}
@@ -77,19 +77,19 @@ unfolding num
 number-none = refl
 
 module _ (frame : Frame) (d₀ : List ℕ) (base : ℕ) (st r : Open) (lb lt out lb′ lt′ out′ : List ℕ) (p : Blanks) (w : Writes frame st (p .count) (p .tag) lb lt out r lb′ lt′ out′) (b : Block) (o : Holds d₀ base b st lb lt out) where
-  written : (x : Option Tag) (n : ℕ) → Left p n x → Holds d₀ base (writeBlanks (setup frame) n x b) r lb′ lt′ out′
+  written : (x : Option Tag) (n : ℕ) → BlanksLeft p n x → Holds d₀ base (writeBlanks (setup frame) n x b) r lb′ lt′ out′
   unfolding writeBlanks
   written none n l =
       let t = tag 0 normal in
       holds-same (blanks-none (setup frame) (p .count) t b (omega (arith, l .0))) (w d₀ base b t o (l .1 ∙ number-none) (omega arith))
   written (some t) n l = rw (l .0) at (w d₀ base b t o (l .1) (l .2))
 
-  carried : Left p (b .wslen) (b .spacetag) → Holds d₀ base (carryOn (setup frame) b) r lb′ lt′ out′
+  carried : BlanksLeft p (b .wslen) (b .spacetag) → Holds d₀ base (carryOn (setup frame) b) r lb′ lt′ out′
   unfolding carryOn
   carried l = holds-lines {x = writeBlanks (setup frame) (b .wslen) (b .spacetag) b} refl refl (written (b .spacetag) (b .wslen) l)
 
 -- The line that a word is wrapped onto.
-pub opens : (frame : Frame) (d₀ : List ℕ) (base : ℕ) (b : Block) (p : Bool) (kept : Dropped) (line r : Open) (lb lt out lb₁ lt₁ out₁ lb′ lt′ out′ : List ℕ) → Neat b
+pub opens : (frame : Frame) (d₀ : List ℕ) (base : ℕ) (b : Block) (p : Bool) (kept : Dropped) (line r : Open) (lb lt out lb₁ lt₁ out₁ lb′ lt′ out′ : List ℕ) → TrimsLeaveText b
     → Dropped-is d₀ base (dropBlanks (setup frame) (b .spacetag) b) kept lb lt out
     → Flushes frame (kept .line) lb lt out line lb₁ lt₁ out₁
     → Writes frame line (kept .blanks .count) (kept .blanks .tag) lb₁ lt₁ out₁ r lb′ lt′ out′
@@ -98,8 +98,8 @@ opens frame d₀ base b p kept line r lb lt out lb₁ lt₁ out₁ lb′ lt′ o
     let s = setup frame in
     let x = dropBlanks s (b .spacetag) b in
     let k = kept-flush s x in
-    let l : Left (kept .blanks) (flushLine s x .wslen) (flushLine s x .spacetag) = rw (k .wslen, k .spacetag) (d .left) in
-    let o = f d₀ base x (d .line) (texted (x .line) (neat-drop s b h)) in
+    let l : BlanksLeft (kept .blanks) (flushLine s x .wslen) (flushLine s x .spacetag) = rw (k .wslen, k .spacetag) (d .left) in
+    let o = f d₀ base x (d .line) (texted (x .line) (trims-drop s b h)) in
     carried frame d₀ base line r lb₁ lt₁ out₁ lb′ lt′ out′ (kept .blanks) w (withWrapped p (flushLine s x)) (holds-lines {x = flushLine s x} refl refl o) l
 
 -- ---- the word
@@ -152,7 +152,7 @@ word-part k n wb wt w e = rw (drop-take k n wb, drop-take k n wt) at e
 
 module _ (frame : Frame) (st : State) (k : ℕ) (line : Open) (lb lt wb wt out lb₁ lt₁ out₁ lb′ lt′ out′ : List ℕ) (r : Wrapped)
     (from : StartsAt (st .blanks) (take (st .word .n) wb) (take (st .word .n) wt) k)
-    (next : Opens frame st lb lt out line lb₁ lt₁ out₁)
+    (next : OpensLine frame st lb lt out line lb₁ lt₁ out₁)
     (wrap : Wraps frame line (take (st .word .n - k) (drop k wb)) (take (st .word .n - k) (drop k wt)) lb₁ lt₁ out₁ r lb′ lt′ out′)
     (d₀ : List ℕ) (base : ℕ) (b : Block) (o : Keeps d₀ base b st lb lt wb wt out) where
   -- the block that the word is wrapped onto
@@ -177,7 +177,7 @@ module _ (frame : Frame) (st : State) (k : ℕ) (line : Open) (lb lt wb wt out l
 
   -- The word is on lines.
   pub wrap-done : (last : Open) (p : Bool) (u : ℕ) (st′ : State) → r ≡ Done last → opened last p u ≡ st′ → StartsPre (take (st .word .n) wt) p
-      → st .word .n ≤ length wb → st .word .n ≤ length wt → Next (wrapWord (setup frame) b) d₀ base st′ lb′ lt′ wb wt out′
+      → st .word .n ≤ length wb → st .word .n ≤ length wt → NextBlock (wrapWord (setup frame) b) d₀ base st′ lb′ lt′ wb wt out′
   unfolding wrapWord flushWordHardWrap carryOn onto
   wrap-done last p u st′ q g f h i =
       let x : Worded (wrapWord (setup frame) b) d₀ base last lb′ lt′ out′ = rw q at word-is in
@@ -189,7 +189,7 @@ module _ (frame : Frame) (st : State) (k : ℕ) (line : Open) (lb lt wb wt out l
         keeps =
             keeps-same g
             (keeps-opened u wb wt (x .holds) (k .word) (k .wslen) (k .spacetag) (k .preWrapped ∙ stay-carry (setup frame) _ .1 ∙ sym e)
-            (subst (OnGood Neat) (x .is) (neat-wrap (setup frame) b (o .neat))));
+            (subst (OnGood TrimsLeaveText) (x .is) (trims-wrap (setup frame) b (o .trims))));
       }
 
 -- ---- the three cases
@@ -208,13 +208,13 @@ flush-wraps s b e h = sym (rw (e, lt-leb (b .wslen + columns (b .word)) (left s 
 
 module _ (frame : Frame) (st : State) (d₀ : List ℕ) (base : ℕ) (b : Block) (lb lt wb wt out : List ℕ) (o : Keeps d₀ base b st lb lt wb wt out) where
   -- no text
-  pub flushes-nothing : st .word .text ≡ false → Next (flushWord (setup frame) b) d₀ base st lb lt wb wt out
+  pub flushes-nothing : st .word .text ≡ false → NextBlock (flushWord (setup frame) b) d₀ base st lb lt wb wt out
   flushes-nothing e = record { block = b; is = flush-nothing (setup frame) b (sym (o .text) ∙ e); keeps = o }
 
   module _ (r : State) (lb′ lt′ : List ℕ) (e : st .word .text ≡ true) where
     -- "Got enough space"
-    pub flushes-fits : st .blanks .count + st .word .cols ≤ frame .width - st .line .cols → Puts st lb lt wb wt r lb′ lt′
-        → Next (flushWord (setup frame) b) d₀ base r lb′ lt′ wb wt out
+    pub flushes-fits : st .blanks .count + st .word .cols ≤ frame .width - st .line .cols → PutsWord st lb lt wb wt r lb′ lt′
+        → NextBlock (flushWord (setup frame) b) d₀ base r lb′ lt′ wb wt out
     unfolding left
     flushes-fits h k =
         record {

@@ -11,7 +11,7 @@ use Rattle.fields.specs.Job.{pre}
 use Rattle.block.specs.Tag.{Tag}
 use Rattle.block.specs.Result.{Result, good, tooNarrow}
 use Rattle.block.specs.Flat.{Line, Block, columns, hasText, trimBack, withLine, withWrapped, flushLine, atWrap, putWord, dropBlanks, carryOn, startsPre, wrapWord, flushWord}
-use Rattle.block.specs.Neat.{Neat}
+use Rattle.block.specs.TrimsLeaveText.{TrimsLeaveText}
 use Rattle.lines.specs.Items.{items, zip}
 use Rattle.lines.specs.Bridge.{num, enc, Valid}
 use Rattle.hard_wrap.specs.Hold.{setup, Holds}
@@ -46,12 +46,12 @@ pub record Keeps (d₀ : List ℕ) (base : ℕ) (b : Block) (st : State) (lb lt 
   pub count : st .blanks .count ≡ b .wslen
   pub pends : Pends (st .blanks) (b .spacetag)
   pub wrapped : st .wrapped ≡ b .preWrapped
-  pub neat : Neat b
+  pub trims : TrimsLeaveText b
 
 -- ---- numbers
 
 -- the buffers are as long as 4,096 units and the width ask
-pub record Lent (frame : Frame) (nlb nlt nwb nwt : ℕ) : Type 0 where
+pub record BuffersLongEnough (frame : Frame) (nlb nlt nwb nwt : ℕ) : Type 0 where
   pub positive : 0 < frame .width
   pub small : frame .width < 256
   pub default : frame .«default_tag» < 256
@@ -62,7 +62,7 @@ pub record Lent (frame : Frame) (nlb nlt nwb nwt : ℕ) : Type 0 where
 
 -- Each entry of the word, each pending blank and each entry of the line that no tab wrote is one of the units that are behind. A line
 -- is closed for each entry of the line at most once, for a blank once and for a byte of the word twice.
-pub record Small (frame : Frame) (st : State) : Type 0 where
+pub record CountsWithinUnits (frame : Frame) (st : State) : Type 0 where
   pub used : st .used ≤ 4096
   pub word : st .word .n + st .blanks .count ≤ st .used
   pub line : st .line .n + st .word .n + st .blanks .count ≤ st .used + st .line .cols
@@ -84,13 +84,13 @@ pub record Dropping (frame : Frame) (st : State) (r : Dropped) : Type 0 where
   pub lines : r .line .lines ≡ st .line .lines
 
 -- blanks that are left, with their tag, which is that of `noBlanks` where there are none
-abbrev pub Left : Blanks → ℕ → Option Tag → Type 0
-Left p n none = (p .count ≡ 0) × (p .tag ≡ 0) × (n ≡ 0)
-Left p n (some t) = (p .count ≡ n) × (p .tag ≡ num t) × (t .ann < 256)
+abbrev pub BlanksLeft : Blanks → ℕ → Option Tag → Type 0
+BlanksLeft p n none = (p .count ≡ 0) × (p .tag ≡ 0) × (n ≡ 0)
+BlanksLeft p n (some t) = (p .count ≡ n) × (p .tag ≡ num t) × (t .ann < 256)
 
 pub record Dropped-is (d₀ : List ℕ) (base : ℕ) (b : Block) (r : Dropped) (lb lt out : List ℕ) : Type 0 where
   pub line : Holds d₀ base b (r .line) lb lt out
-  pub left : Left (r .blanks) (b .wslen) (b .spacetag)
+  pub left : BlanksLeft (r .blanks) (b .wslen) (b .spacetag)
 
 -- Pre: what exceeds the rest of the line is carried on, or the blanks are written
 abbrev pub KeepsPre : Frame → State → List ℕ → List ℕ → Dropped → List ℕ → List ℕ → Type 0
@@ -124,8 +124,8 @@ pub record Opened (frame : Frame) (st : State) (r : Open) : Type 0 where
   pub lines : r .lines ≤ r .place
 
 -- the blanks dealt with, a line with text closed, and what is left of the blanks written
-abbrev pub Opens : Frame → State → List ℕ → List ℕ → List ℕ → Open → List ℕ → List ℕ → List ℕ → Type 0
-Opens frame st lb lt out r lb′ lt′ out′ =
+abbrev pub OpensLine : Frame → State → List ℕ → List ℕ → List ℕ → Open → List ℕ → List ℕ → List ℕ → Type 0
+OpensLine frame st lb lt out r lb′ lt′ out′ =
     (d₀ : List ℕ) (base : ℕ) (b : Block) (wb wt : List ℕ) (p : Bool) → Keeps d₀ base b st lb lt wb wt out
     → Holds d₀ base (carryOn (setup frame) (withWrapped p (flushLine (setup frame) (dropBlanks (setup frame) (b .spacetag) b)))) r lb′ lt′ out′
 
@@ -136,25 +136,25 @@ StartsAt p wb wt r =
     → zip (drop r wb) (drop r wt) ≡ enc ((dropBlanks s (b .spacetag) b) .word)
 
 -- "Got enough space"
-abbrev pub Puts : State → List ℕ → List ℕ → List ℕ → List ℕ → State → List ℕ → List ℕ → Type 0
-Puts st lb lt wb wt r lb′ lt′ =
+abbrev pub PutsWord : State → List ℕ → List ℕ → List ℕ → List ℕ → State → List ℕ → List ℕ → Type 0
+PutsWord st lb lt wb wt r lb′ lt′ =
     (d₀ : List ℕ) (base : ℕ) (b : Block) (out : List ℕ) → Keeps d₀ base b st lb lt wb wt out → hasText (b .word) ≡ true
     → Keeps d₀ base (putWord (withWrapped false b)) r lb′ lt′ wb wt out
 
 -- what a result of the flat block is in the code: TooNarrow, or a state that keeps the next block
-pub record Next (o : Result Block) (d₀ : List ℕ) (base : ℕ) (r : State) (lb lt wb wt out : List ℕ) : Type 0 where
+pub record NextBlock (o : Result Block) (d₀ : List ℕ) (base : ℕ) (r : State) (lb lt wb wt out : List ℕ) : Type 0 where
   pub block : Block
   pub is : o ≡ good block
   pub keeps : Keeps d₀ base block r lb lt wb wt out
 
 abbrev pub ResultIs : Result Block → List ℕ → ℕ → Flushed → List ℕ → List ℕ → List ℕ → List ℕ → List ℕ → Type 0
 ResultIs o d₀ base Narrow lb lt wb wt out = o ≡ tooNarrow
-ResultIs o d₀ base (Done r) lb lt wb wt out = Next o d₀ base r lb lt wb wt out
+ResultIs o d₀ base (Done r) lb lt wb wt out = NextBlock o d₀ base r lb lt wb wt out
 
 -- the numbers after a flush
-abbrev pub StaysSmall : Frame → ℕ → Flushed → Type 0
-StaysSmall frame used Narrow = Unit {0}
-StaysSmall frame used (Done r) = Small frame r × (r .used ≡ used)
+abbrev pub StaysWithinUnits : Frame → ℕ → Flushed → Type 0
+StaysWithinUnits frame used Narrow = Unit {0}
+StaysWithinUnits frame used (Done r) = CountsWithinUnits frame r × (r .used ≡ used)
 
 -- "Not enough space"
 abbrev pub WrapsWord : Frame → State → List ℕ → List ℕ → List ℕ → List ℕ → List ℕ → Flushed → List ℕ → List ℕ → List ℕ → Type 0

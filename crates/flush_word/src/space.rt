@@ -10,7 +10,7 @@ use lines::buffer::push_blanks;
 ghost use mathlib.Core.Path.{_≡_};
 ghost use Prim.Native.Nat.{_/_, _<_, _≤_};
 ghost use lib.ListN.{length};
-ghost use Rattle.flush_word.specs.Keep.{Small, Lent, Dropping, KeepsPre, Trimmed, TrimsLine, Drops};
+ghost use Rattle.flush_word.specs.Keep.{CountsWithinUnits, BuffersLongEnough, Dropping, KeepsPre, Trimmed, TrimsLine, Drops};
 
 // The line and the blanks that are left, once a word does not fit.
 pub struct Dropped {
@@ -27,7 +27,7 @@ pub fn mode_of(tag: u32) -> u32
 
 // Pre: what exceeds the rest of the line is carried on where the blanks reach it; else they are written.
 fn keep_pre(frame: Frame, st: State, lb: &mut [u8], lt: &mut [u32]) -> Dropped
-    requires { ⌜ Small frame st × Lent frame (length (now lb)) (length (now lt)) 4096 4096 ⌝ }
+    requires { ⌜ CountsWithinUnits frame st × BuffersLongEnough frame (length (now lb)) (length (now lt)) 4096 4096 ⌝ }
     requires { ⌜ 0 < st .blanks .count ⌝ }
     ensures { λ r. ⌜ Dropping frame st r ⌝ }
     ensures { λ r. ⌜ KeepsPre frame st (now (lb .entry)) (now (lt .entry)) r (now (lb .exit)) (now (lt .exit)) ⌝ }
@@ -73,7 +73,7 @@ fn trim_line(line: Open, lb: &[u8], lt: &[u32]) -> Open
 
 // What becomes of the line and the blanks, by the last blank's mode; the word's front is trimmed apart.
 pub fn drop_blanks(frame: Frame, st: State, lb: &mut [u8], lt: &mut [u32]) -> Dropped
-    requires { ⌜ Small frame st × Lent frame (length (now lb)) (length (now lt)) 4096 4096 ⌝ }
+    requires { ⌜ CountsWithinUnits frame st × BuffersLongEnough frame (length (now lb)) (length (now lt)) 4096 4096 ⌝ }
     ensures { λ r. ⌜ Dropping frame st r ⌝ }
     ensures { λ r. ⌜ Drops frame st (now (lb .entry)) (now (lt .entry)) r (now (lb .exit)) (now (lt .exit)) ⌝ }
 {

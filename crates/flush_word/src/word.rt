@@ -20,7 +20,7 @@ ghost use mathlib.Core.Path.{_≡_};
 ghost use mathlib.Core.Bool.{true, false};
 ghost use Prim.Native.Nat.{_+_, _-_, _≤_};
 ghost use lib.ListN.{length};
-ghost use Rattle.flush_word.specs.Keep.{noWord, noBlanks, Small, Lent, Puts, StartsPre, StartsAt, Opened, Opens, StaysSmall, WrapsWord, FlushesWord};
+ghost use Rattle.flush_word.specs.Keep.{noWord, noBlanks, CountsWithinUnits, BuffersLongEnough, PutsWord, StartsPre, StartsAt, Opened, OpensLine, StaysWithinUnits, WrapsWord, FlushesWord};
 
 // The state with another line and nothing pending.
 fn emptied(line: Open, wrapped: bool, used: usize) -> State
@@ -39,10 +39,10 @@ fn emptied(line: Open, wrapped: bool, used: usize) -> State
 
 // "Got enough space": the blanks and the word go on the line.
 fn put_word(frame: Frame, st: State, lb: &mut [u8], lt: &mut [u32], wb: &[u8], wt: &[u32]) -> State
-    requires { ⌜ Small frame st × Lent frame (length (now lb)) (length (now lt)) (length (now wb)) (length (now wt)) ⌝ }
+    requires { ⌜ CountsWithinUnits frame st × BuffersLongEnough frame (length (now lb)) (length (now lt)) (length (now wb)) (length (now wt)) ⌝ }
     requires { ⌜ st .blanks .count + st .word .cols ≤ frame .width - st .line .cols ⌝ }
-    ensures { λ r. ⌜ Small frame r × (r .used ≡ st .used) ⌝ }
-    ensures { λ r. ⌜ Puts st (now (lb .entry)) (now (lt .entry)) (now (wb .entry)) (now (wt .entry)) r (now (lb .exit)) (now (lt .exit)) ⌝ }
+    ensures { λ r. ⌜ CountsWithinUnits frame r × (r .used ≡ st .used) ⌝ }
+    ensures { λ r. ⌜ PutsWord st (now (lb .entry)) (now (lt .entry)) (now (wb .entry)) (now (wt .entry)) r (now (lb .exit)) (now (lt .exit)) ⌝ }
 {
     let line = st.line;
     let blanks = st.blanks;
@@ -90,9 +90,9 @@ fn word_start(blanks: Blanks, wb: &[u8], wt: &[u32]) -> usize
 
 // A new line, and the blanks that are carried on.
 fn next_line(frame: Frame, st: State, lb: &mut [u8], lt: &mut [u32], out: &mut [u8]) -> Open
-    requires { ⌜ Small frame st × Lent frame (length (now lb)) (length (now lt)) 4096 4096 ⌝ }
+    requires { ⌜ CountsWithinUnits frame st × BuffersLongEnough frame (length (now lb)) (length (now lt)) 4096 4096 ⌝ }
     ensures { λ r. ⌜ Opened frame st r ⌝ }
-    ensures { λ r. ⌜ Opens frame st (now (lb .entry)) (now (lt .entry)) (now (out .entry)) r (now (lb .exit)) (now (lt .exit)) (now (out .exit)) ⌝ }
+    ensures { λ r. ⌜ OpensLine frame st (now (lb .entry)) (now (lt .entry)) (now (out .entry)) r (now (lb .exit)) (now (lt .exit)) (now (out .exit)) ⌝ }
 {
     let kept = drop_blanks(frame, st, lb, lt);
     let line = flush_line(frame, kept.line, lb, lt, out);
@@ -110,9 +110,9 @@ fn wrap_word(
     wt: &[u32],
     out: &mut [u8],
 ) -> Flushed
-    requires { ⌜ Small frame st × Lent frame (length (now lb)) (length (now lt)) (length (now wb)) (length (now wt)) ⌝ }
+    requires { ⌜ CountsWithinUnits frame st × BuffersLongEnough frame (length (now lb)) (length (now lt)) (length (now wb)) (length (now wt)) ⌝ }
     requires { ⌜ st .word .text ≡ true ⌝ }
-    ensures { λ r. ⌜ StaysSmall frame (st .used) r ⌝ }
+    ensures { λ r. ⌜ StaysWithinUnits frame (st .used) r ⌝ }
     ensures { λ r. ⌜ WrapsWord frame st (now (lb .entry)) (now (lt .entry)) (now (wb .entry)) (now (wt .entry)) (now (out .entry)) r (now (lb .exit)) (now (lt .exit)) (now (out .exit)) ⌝ }
 {
     let word = st.word;
@@ -138,8 +138,8 @@ pub fn flush_word(
     wt: &[u32],
     out: &mut [u8],
 ) -> Flushed
-    requires { ⌜ Small frame st × Lent frame (length (now lb)) (length (now lt)) (length (now wb)) (length (now wt)) ⌝ }
-    ensures { λ r. ⌜ StaysSmall frame (st .used) r ⌝ }
+    requires { ⌜ CountsWithinUnits frame st × BuffersLongEnough frame (length (now lb)) (length (now lt)) (length (now wb)) (length (now wt)) ⌝ }
+    ensures { λ r. ⌜ StaysWithinUnits frame (st .used) r ⌝ }
     ensures { λ r. ⌜ FlushesWord frame st (now (lb .entry)) (now (lt .entry)) (now (wb .entry)) (now (wt .entry)) (now (out .entry)) r (now (lb .exit)) (now (lt .exit)) (now (out .exit)) ⌝ }
 {
     let line = st.line;

@@ -22,7 +22,7 @@ use Rattle.lines.proofs.Encoded.{scalars-left}
 use Rattle.lines.proofs.HardWrap.{splits, too-wide}
 use Rattle.hard_wrap.specs.Walk.{Shows, Split}
 use Rattle.hard_wrap.proofs.Walks.{text-none}
-use Rattle.hard_wrap.specs.Hold.{setup, Holds, Ends, Stepped}
+use Rattle.hard_wrap.specs.Hold.{setup, Holds, ClosesWith, Stepped}
 use Rattle.hard_wrap.specs.declared.line.Frame.{Frame}
 use Rattle.hard_wrap.specs.declared.line.Open.{Open}
 
@@ -43,7 +43,7 @@ module _ (frame : Frame) (st r : Open) (rest lb lt out lb′ lt′ out′ d₀ :
     (o : Holds d₀ base b st lb lt out) (ta : tag ≡ num t) (ann : t .ann < 256) (sc : Scalars cs) (e : rest ≡ textBytes cs)
     (wide : frame .width < st .cols + str-width cs) (room : st .cols ≤ frame .width) where
   -- what fits goes on the line
-  pub step-on : (at used : ℕ) → Split (frame .width - st .cols) cs at used → used ≤ frame .width - st .cols → 0 < at + st .cols → Ends frame st (take at rest) used tag lb lt out r lb′ lt′ out′
+  pub step-on : (at used : ℕ) → Split (frame .width - st .cols) cs at used → used ≤ frame .width - st .cols → 0 < at + st .cols → ClosesWith frame st (take at rest) used tag lb lt out r lb′ lt′ out′
       → Stepped (setup frame) d₀ base b t cs r at used lb′ lt′ out′
   unfolding str-width
   step-on at used s h k x = go (s .q) refl
@@ -95,7 +95,7 @@ module _ (frame : Frame) (st r : Open) (rest lb lt out lb′ lt′ out′ d₀ :
     with-overflow c q z y e = ap (Alone c q z) e
 
     -- it goes on the open line, and that is closed
-    pub step-over : (len k : ℕ) → Shows rest len k → frame .overflow ≡ true → Ends frame st (take len rest) k tag lb lt out r lb′ lt′ out′ → Stepped (setup frame) d₀ base b t cs r len k lb′ lt′ out′
+    pub step-over : (len k : ℕ) → Shows rest len k → frame .overflow ≡ true → ClosesWith frame st (take len rest) k tag lb lt out r lb′ lt′ out′ → Stepped (setup frame) d₀ base b t cs r len k lb′ lt′ out′
     unfolding str-width textBytes
     step-over len k g over x = go (s .q) refl
       where

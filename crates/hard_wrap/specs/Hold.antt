@@ -81,7 +81,7 @@ Forward st m Stuck = Unit {0}
 Forward st m (On r split used) = Moved st m r split used
 
 -- after m bytes of a word: each byte may close two lines, and a line with columns one more
-pub record Grown (frame : Frame) (st : Open) (m : ℕ) (r : Open) : Type 0 where
+pub record WordGrown (frame : Frame) (st : Open) (m : ℕ) (r : Open) : Type 0 where
   pub n : r .n ≤ st .n + m
   pub cols : r .cols ≤ frame .width
   pub place : r .place + 65538 * min 1 (r .cols) ≤ st .place + 65538 * (2 * m + min 1 (st .cols))
@@ -90,7 +90,7 @@ pub record Grown (frame : Frame) (st : Open) (m : ℕ) (r : Open) : Type 0 where
 -- the numbers after `wrap_piece` and `hard_wrap`
 abbrev pub Grows : Frame → Open → ℕ → Wrapped → Type 0
 Grows frame st m Narrow = Unit {0}
-Grows frame st m (Done r) = Grown frame st m r
+Grows frame st m (Done r) = WordGrown frame st m r
 
 -- ---- steps
 
@@ -99,19 +99,19 @@ unfoldable pub padded : Frame → Open → List Item → List Item
 padded frame st l = if frame .pad then l ++ replicate (frame .width - st .cols) (item 0x20 (frame .«default_tag»)) else l
 
 -- text goes on the line
-abbrev pub Puts : Open → List ℕ → ℕ → ℕ → List ℕ → List ℕ → Open → List ℕ → List ℕ → Type 0
-Puts st part used tag lb lt r lb′ lt′ =
+abbrev pub PutsText : Open → List ℕ → ℕ → ℕ → List ℕ → List ℕ → Open → List ℕ → List ℕ → Type 0
+PutsText st part used tag lb lt r lb′ lt′ =
     (d₀ : List ℕ) (base : ℕ) (b : Block) (t : Tag) (cs out : List ℕ) → Holds d₀ base b st lb lt out → tag ≡ num t → t .ann < 256 → Scalars cs → part ≡ textBytes cs → used ≡ str-width cs
     → Holds d₀ base (withLine (b .line ++ text t cs) b) r lb′ lt′ out
 
 -- a line is closed
-abbrev pub Closes : Frame → Open → List ℕ → List ℕ → List ℕ → Open → List ℕ → List ℕ → List ℕ → Type 0
-Closes frame st lb lt out r lb′ lt′ out′ =
+abbrev pub ForceFlushes : Frame → Open → List ℕ → List ℕ → List ℕ → Open → List ℕ → List ℕ → List ℕ → Type 0
+ForceFlushes frame st lb lt out r lb′ lt′ out′ =
     (d₀ : List ℕ) (base : ℕ) (b : Block) → Holds d₀ base b st lb lt out → Holds d₀ base (forceFlushLine (setup frame) b) r lb′ lt′ out′
 
 -- a part of a piece goes on the line, and that is closed
-abbrev pub Ends : Frame → Open → List ℕ → ℕ → ℕ → List ℕ → List ℕ → List ℕ → Open → List ℕ → List ℕ → List ℕ → Type 0
-Ends frame st part used tag lb lt out r lb′ lt′ out′ =
+abbrev pub ClosesWith : Frame → Open → List ℕ → ℕ → ℕ → List ℕ → List ℕ → List ℕ → Open → List ℕ → List ℕ → List ℕ → Type 0
+ClosesWith frame st part used tag lb lt out r lb′ lt′ out′ =
     (d₀ : List ℕ) (base : ℕ) (b : Block) (t : Tag) (cs : List ℕ) → Holds d₀ base b st lb lt out → tag ≡ num t → t .ann < 256 → Scalars cs → part ≡ textBytes cs → used ≡ str-width cs
     → Holds d₀ base (forceFlushLine (setup frame) (withLine (b .line ++ text t cs) b)) r lb′ lt′ out′
 
@@ -132,8 +132,8 @@ StepIs s d₀ base b t cs Stuck lb lt out = (w : Line) → hardWrap s (text t cs
 StepIs s d₀ base b t cs (On r split used) lb lt out = Stepped s d₀ base b t cs r split used lb lt out
 
 -- the step that `wrap_line` makes at the place where the walk over the characters stopped, where the rest of the piece does not fit
-abbrev pub Steps : Frame → Open → List ℕ → ℕ → ℕ → ℕ → List ℕ → List ℕ → List ℕ → Step → List ℕ → List ℕ → List ℕ → Type 0
-Steps frame st rest split used tag lb lt out r lb′ lt′ out′ =
+abbrev pub WrapsLine : Frame → Open → List ℕ → ℕ → ℕ → ℕ → List ℕ → List ℕ → List ℕ → Step → List ℕ → List ℕ → List ℕ → Type 0
+WrapsLine frame st rest split used tag lb lt out r lb′ lt′ out′ =
     (d₀ : List ℕ) (base : ℕ) (b : Block) (t : Tag) (cs : List ℕ) → Holds d₀ base b st lb lt out → tag ≡ num t → t .ann < 256 → Scalars cs → rest ≡ textBytes cs → frame .width < st .cols + str-width cs
     → Split (frame .width - st .cols) cs split used → StepIs (setup frame) d₀ base b t cs r lb′ lt′ out′
 

@@ -13,7 +13,7 @@ use Rattle.hard_wrap.specs.declared.line.Frame.{Frame}
 use Rattle.hard_wrap.specs.declared.line.Open.{Open}
 
 -- the numbers after a line with text is closed
-pub record Flushed (st r : Open) : Type 0 where
+pub record LineFlushed (st r : Open) : Type 0 where
   pub n : r .n ≡ 0
   pub cols : r .cols ≡ 0
   pub place : r .place ≤ st .place + 65538 * min 1 (st .n)

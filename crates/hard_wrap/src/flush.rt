@@ -2,17 +2,17 @@
 // remaining whitespace" in `flush_word`).
 use crate::line::Frame;
 use crate::line::Open;
-use crate::line::close_line;
+use crate::line::force_flush_line;
 use lines::buffer::push_byte;
 ghost use Prim.Native.Nat.{_≤_};
 ghost use lib.ListN.{length};
 ghost use Rattle.hard_wrap.specs.Hold.{Room};
-ghost use Rattle.hard_wrap.specs.Steps.{Flushed, Flushes, Blanked, Writes};
+ghost use Rattle.hard_wrap.specs.Steps.{LineFlushed, Flushes, Blanked, Writes};
 
 // A line with text is closed (`flush_line`). A line with entries has text, so their number decides.
 pub fn flush_line(frame: Frame, st: Open, lb: &mut [u8], lt: &mut [u32], out: &mut [u8]) -> Open
     requires { ⌜ Room frame st 0 1 (length (now lb)) (length (now lt)) ⌝ }
-    ensures { λ r. ⌜ Flushed st r ⌝ }
+    ensures { λ r. ⌜ LineFlushed st r ⌝ }
     ensures { λ r. ⌜ Flushes frame st (now (lb .entry)) (now (lt .entry)) (now (out .entry)) r (now (lb .exit)) (now (lt .exit)) (now (out .exit)) ⌝ }
 {
     if st.n == 0 {
@@ -23,7 +23,7 @@ pub fn flush_line(frame: Frame, st: Open, lb: &mut [u8], lt: &mut [u32], out: &m
             lines: st.lines,
         };
     }
-    close_line(frame, st, lb, lt, out)
+    force_flush_line(frame, st, lb, lt, out)
 }
 
 // One blank more, and the line is closed where it is full.
@@ -48,7 +48,7 @@ fn write_blank(
         lines: st.lines,
     };
     if frame.width <= next.cols {
-        return close_line(frame, next, lb, lt, out);
+        return force_flush_line(frame, next, lb, lt, out);
     }
     next
 }

@@ -5,7 +5,7 @@ ghost use mathlib.Core.Path.{_≡_};
 ghost use Prim.Native.Nat.{_+_, _≤_};
 ghost use lib.ListN.{length};
 ghost use Rattle.lines.specs.Items.{items};
-ghost use Rattle.hard_wrap.specs.Hold.{Room, padded, Emptied, Closes};
+ghost use Rattle.hard_wrap.specs.Hold.{Room, padded, Emptied, ForceFlushes};
 
 // What a W field says of the block, the default annotation as a tag.
 pub struct Frame {
@@ -42,10 +42,16 @@ fn pad_line(frame: Frame, st: Open, lb: &mut [u8], lt: &mut [u32]) -> usize
 }
 
 // The open line goes to the store, and the next one is open and empty (`force_flush_line`).
-pub fn close_line(frame: Frame, st: Open, lb: &mut [u8], lt: &mut [u32], out: &mut [u8]) -> Open
+pub fn force_flush_line(
+    frame: Frame,
+    st: Open,
+    lb: &mut [u8],
+    lt: &mut [u32],
+    out: &mut [u8],
+) -> Open
     requires { ⌜ Room frame st 0 1 (length (now lb)) (length (now lt)) ⌝ }
     ensures { λ r. ⌜ Emptied st r ⌝ }
-    ensures { λ r. ⌜ Closes frame st (now (lb .entry)) (now (lt .entry)) (now (out .entry)) r (now (lb .exit)) (now (lt .exit)) (now (out .exit)) ⌝ }
+    ensures { λ r. ⌜ ForceFlushes frame st (now (lb .entry)) (now (lt .entry)) (now (out .entry)) r (now (lb .exit)) (now (lt .exit)) (now (out .exit)) ⌝ }
 {
     let n = pad_line(frame, st, lb, lt);
     let at = st.place;

@@ -6,13 +6,13 @@ use crate::glyph::plain_within;
 use crate::glyph::width_of;
 use crate::line::Frame;
 use crate::line::Open;
-use crate::line::close_line;
+use crate::line::force_flush_line;
 use crate::numbers::less;
 use crate::wrap::Wrapped;
 use lines::buffer::push_text;
 ghost use Prim.Native.Nat.{_+_, _-_, _*_, _^_, _≤_, _<_};
 ghost use lib.ListN.{length};
-ghost use Rattle.hard_wrap.specs.Hold.{Longer, Puts, Room, Emptied, Ends, Forward, Steps, Grows, Pieces};
+ghost use Rattle.hard_wrap.specs.Hold.{Longer, PutsText, Room, Emptied, ClosesWith, Forward, WrapsLine, Grows, Pieces};
 
 // What a line of a piece comes to: the next line is open, so many bytes and columns on; or `TooNarrow`.
 enum Step {
@@ -24,7 +24,7 @@ enum Step {
 fn put_text(st: Open, lb: &mut [u8], lt: &mut [u32], part: &[u8], used: usize, tag: u32) -> Open
     requires { ⌜ (st .n + length (now part) ≤ length (now lb)) × (st .n + length (now part) ≤ length (now lt)) × (st .cols + used < 2 ^ 62) ⌝ }
     ensures { λ r. ⌜ Longer st (length (now (part .entry))) used r ⌝ }
-    ensures { λ r. ⌜ Puts st (now (part .entry)) used tag (now (lb .entry)) (now (lt .entry)) r (now (lb .exit)) (now (lt .exit)) ⌝ }
+    ensures { λ r. ⌜ PutsText st (now (part .entry)) used tag (now (lb .entry)) (now (lt .entry)) r (now (lb .exit)) (now (lt .exit)) ⌝ }
 {
     let n = push_text(lb, lt, st.n, part, tag);
     Open {
@@ -36,7 +36,7 @@ fn put_text(st: Open, lb: &mut [u8], lt: &mut [u32], part: &[u8], used: usize, t
 }
 
 // A part of a piece goes on the line, and that is closed: one turn of `flush_word_hard_wrap` but for the split.
-fn end_line(
+fn close_with(
     frame: Frame,
     st: Open,
     lb: &mut [u8],
@@ -49,10 +49,10 @@ fn end_line(
     requires { ⌜ Room frame st (length (now part)) 1 (length (now lb)) (length (now lt)) ⌝ }
     requires { ⌜ (st .cols ≤ frame .width) × (used < 512) ⌝ }
     ensures { λ r. ⌜ Emptied st r ⌝ }
-    ensures { λ r. ⌜ Ends frame st (now (part .entry)) used tag (now (lb .entry)) (now (lt .entry)) (now (out .entry)) r (now (lb .exit)) (now (lt .exit)) (now (out .exit)) ⌝ }
+    ensures { λ r. ⌜ ClosesWith frame st (now (part .entry)) used tag (now (lb .entry)) (now (lt .entry)) (now (out .entry)) r (now (lb .exit)) (now (lt .exit)) (now (out .exit)) ⌝ }
 {
     let full = put_text(st, lb, lt, part, used, tag);
-    close_line(frame, full, lb, lt, out)
+    force_flush_line(frame, full, lb, lt, out)
 }
 
 // One line of a piece that does not fit: what is before the split place goes on it, or a character that no line takes.
@@ -70,13 +70,13 @@ fn wrap_line(
     requires { ⌜ Room frame st (length (now rest)) 1 (length (now lb)) (length (now lt)) ⌝ }
     requires { ⌜ (st .cols ≤ frame .width) × (0 < length (now rest)) × (split ≤ length (now rest)) × (used ≤ frame .width - st .cols) ⌝ }
     ensures { λ r. ⌜ Forward st (length (now (rest .entry))) r ⌝ }
-    ensures { λ r. ⌜ Steps frame st (now (rest .entry)) split used tag (now (lb .entry)) (now (lt .entry)) (now (out .entry)) r (now (lb .exit)) (now (lt .exit)) (now (out .exit)) ⌝ }
+    ensures { λ r. ⌜ WrapsLine frame st (now (rest .entry)) split used tag (now (lb .entry)) (now (lt .entry)) (now (out .entry)) r (now (lb .exit)) (now (lt .exit)) (now (out .exit)) ⌝ }
 {
     if split == 0 {
         if st.cols == 0 {
             if frame.overflow {
                 let g = glyph(rest);
-                let next = end_line(frame, st, lb, lt, &rest[..g.len], g.cols, tag, out);
+                let next = close_with(frame, st, lb, lt, &rest[..g.len], g.cols, tag, out);
                 return Step::On {
                     st: next,
                     split: g.len,
@@ -86,7 +86,7 @@ fn wrap_line(
             return Step::Stuck;
         }
     }
-    let next = end_line(frame, st, lb, lt, &rest[..split], used, tag, out);
+    let next = close_with(frame, st, lb, lt, &rest[..split], used, tag, out);
     Step::On {
         st: next,
         split,

@@ -21,7 +21,7 @@ use Rattle.block.specs.Flat.{Block, addElement, addField, addFields}
 use Rattle.lines.specs.Bridge.{modeNo}
 use Rattle.hard_wrap.specs.Hold.{setup}
 use Rattle.hard_wrap.specs.declared.line.Frame.{Frame}
-use Rattle.flush_word.specs.Keep.{Keeps, Small, Lent}
+use Rattle.flush_word.specs.Keep.{Keeps, CountsWithinUnits, BuffersLongEnough}
 use Rattle.flush_word.specs.declared.state.State.{State}
 use Rattle.flush_word.specs.declared.state.Flushed.{Flushed}
 use Rattle.flush_word.specs.declared.state.Flushed.the-variants.{Done, Narrow}
@@ -123,7 +123,7 @@ pub record Left (frame : Frame) (body : List ℕ) (at : ℕ) (d₀ : List ℕ) (
 -- the fields before a place are added
 pub record Added (frame : Frame) (st : State) (body lb₀ lt₀ wb₀ wt₀ out₀ : List ℕ) (cur : State) (at : ℕ) (lb lt wb wt out : List ℕ) : Type 0 where
   pub inside : at ≤ length body
-  pub small : Small frame cur
+  pub small : CountsWithinUnits frame cur
   pub units : cur .used + bodyUnits (raws (drop at body)) ≤ st .used + bodyUnits (raws body)
   pub lb-is : length lb ≡ length lb₀
   pub lt-is : length lt ≡ length lt₀
@@ -135,7 +135,7 @@ pub record Added (frame : Frame) (st : State) (body lb₀ lt₀ wb₀ wt₀ out�
 
 module _ (frame : Frame) (st : State) (body lb₀ lt₀ wb₀ wt₀ out₀ : List ℕ) where
   -- No field yet.
-  pub added-start : Small frame st → Added frame st body lb₀ lt₀ wb₀ wt₀ out₀ st 0 lb₀ lt₀ wb₀ wt₀ out₀
+  pub added-start : CountsWithinUnits frame st → Added frame st body lb₀ lt₀ wb₀ wt₀ out₀ st 0 lb₀ lt₀ wb₀ wt₀ out₀
   added-start s =
       record {
         inside = omega arith;

@@ -10,7 +10,7 @@ use Rattle.fields.specs.Sheet.{linesBytes}
 use Rattle.fields.specs.declared.job.Setup.{Setup}
 use Rattle.block.specs.Result.{tooNarrow}
 use Rattle.block.specs.Flat.{Block, columns, hasText, new, flushLine, flushWord, intoLines, wrapped, sheetLine}
-use Rattle.block.proofs.Neats.{neat-new, texted}
+use Rattle.block.proofs.NonSpaces.{trims-new, texted}
 use Rattle.lines.specs.Items.{items}
 use Rattle.lines.specs.Bridge.{enc}
 use Rattle.hard_wrap.specs.Hold.{setup}
@@ -18,7 +18,7 @@ use Rattle.hard_wrap.specs.Steps.{Flushes}
 use Rattle.hard_wrap.specs.Steps as steps
 use Rattle.hard_wrap.specs.declared.line.Frame.{Frame}
 use Rattle.hard_wrap.specs.declared.line.Open.{Open}
-use Rattle.flush_word.specs.Keep.{Keeps, Small, FlushesWord}
+use Rattle.flush_word.specs.Keep.{Keeps, CountsWithinUnits, FlushesWord}
 use Rattle.flush_word.specs.declared.state.State.{State}
 use Rattle.flush_word.specs.declared.state.Flushed.the-variants as flushed
 use Rattle.render.specs.Render.{AddsFields, newState, LinesSmall, FlushesAll, IntoLines}
@@ -40,11 +40,11 @@ keeps-new lb lt wb wt out =
       count = refl;
       pends = refl;
       wrapped = refl;
-      neat = neat-new;
+      trims = trims-new;
     }
 
 -- Its numbers are in bounds.
-pub small-fresh : (frame : Frame) {st : State} → st ≡ newState → Small frame st
+pub small-fresh : (frame : Frame) {st : State} → st ≡ newState → CountsWithinUnits frame st
 small-fresh frame e =
     rw e (record {
       used = omega arith;
@@ -66,7 +66,7 @@ module _ (frame : Frame) (st : State) (lb lt wb wt out : List ℕ) where
   unfolding intoLines
   flushes-done last o w f d₀ b k =
       let n = w d₀ 5 b k in
-      let h = f d₀ 5 (n .block) (n .keeps .line) (texted (n .block .line) (n .keeps .neat .line)) in
+      let h = f d₀ 5 (n .block) (n .keeps .line) (texted (n .block .line) (n .keeps .trims .line)) in
       let ls = (flushLine (setup frame) (n .block)) .text in
       record {
         ls = ls;
@@ -80,7 +80,7 @@ unfolding intoLines
 flushes-narrow s b e = rw e
 
 -- The place stays small: at most 65,537 lines of at most 65,538 bytes.
-pub place-small : (frame : Frame) (last : State) (o : Open) → Small frame last → steps.Flushed (last .line) o → LinesSmall (Closed o)
+pub place-small : (frame : Frame) (last : State) (o : Open) → CountsWithinUnits frame last → steps.LineFlushed (last .line) o → LinesSmall (Closed o)
 place-small frame last o s f = omega (arith, s .used, s .place, f .place)
 
 module _ (frame : Frame) (body lb lt wb wt out : List ℕ) (st : State) (fresh : st ≡ newState) where

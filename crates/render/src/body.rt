@@ -12,7 +12,7 @@ ghost use Prim.Native.Nat.{_+_, _≤_};
 ghost use lib.ListN.{length};
 ghost use Rattle.fields.specs.Field.{whole, raws};
 ghost use Rattle.fields.specs.Job.{fieldUnits, bodyUnits};
-ghost use Rattle.flush_word.specs.Keep.{Small, Lent};
+ghost use Rattle.flush_word.specs.Keep.{CountsWithinUnits, BuffersLongEnough};
 ghost use Rattle.add_text.specs.Walks.{TextSmall};
 ghost use Rattle.render.specs.Render.{runOf, AddsField, AddsFields};
 
@@ -46,7 +46,7 @@ fn add_field(
     wt: &mut [u32],
     out: &mut [u8],
 ) -> Flushed
-    requires { ⌜ Small frame st × Lent frame (length (now lb)) (length (now lt)) (length (now wb)) (length (now wt)) ⌝ }
+    requires { ⌜ CountsWithinUnits frame st × BuffersLongEnough frame (length (now lb)) (length (now lt)) (length (now wb)) (length (now wt)) ⌝ }
     requires { ⌜ st .used + fieldUnits (whole letter (now content)) ≤ 4096 ⌝ }
     ensures { λ r. ⌜ TextSmall frame (st .used + fieldUnits (whole letter (now (content .entry)))) r ⌝ }
     ensures { λ r. ⌜ AddsField frame st letter (now (content .entry))
@@ -80,7 +80,7 @@ pub fn add_fields(
     wt: &mut [u32],
     out: &mut [u8],
 ) -> Flushed
-    requires { ⌜ Small frame st × Lent frame (length (now lb)) (length (now lt)) (length (now wb)) (length (now wt)) ⌝ }
+    requires { ⌜ CountsWithinUnits frame st × BuffersLongEnough frame (length (now lb)) (length (now lt)) (length (now wb)) (length (now wt)) ⌝ }
     requires { ⌜ st .used + bodyUnits (raws (now body)) ≤ 4096 ⌝ }
     ensures { λ r. ⌜ TextSmall frame (st .used + bodyUnits (raws (now (body .entry)))) r ⌝ }
     ensures { λ r. ⌜ AddsFields frame st (now (body .entry))

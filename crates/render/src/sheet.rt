@@ -13,7 +13,7 @@ ghost use Prim.Native.Nat.{_≤_};
 ghost use lib.ListN.{length};
 ghost use Rattle.fields.specs.Field.{raws};
 ghost use Rattle.fields.specs.Job.{bodyUnits};
-ghost use Rattle.flush_word.specs.Keep.{Small, Lent};
+ghost use Rattle.flush_word.specs.Keep.{CountsWithinUnits, BuffersLongEnough};
 ghost use Rattle.render.specs.Render.{newState, FrameSmall, LinesSmall, FlushesAll, IntoLines};
 
 // The lines are closed and in the store, or the block was too narrow.
@@ -53,7 +53,7 @@ fn flush(
     wt: &[u32],
     out: &mut [u8],
 ) -> Lines
-    requires { ⌜ Small frame st × Lent frame (length (now lb)) (length (now lt)) (length (now wb)) (length (now wt)) ⌝ }
+    requires { ⌜ CountsWithinUnits frame st × BuffersLongEnough frame (length (now lb)) (length (now lt)) (length (now wb)) (length (now wt)) ⌝ }
     ensures { λ r. ⌜ LinesSmall r ⌝ }
     ensures { λ r. ⌜ FlushesAll frame st (now (lb .entry)) (now (lt .entry)) (now (wb .entry)) (now (wt .entry)) (now (out .entry)) r (now (out .exit)) ⌝ }
 {
@@ -77,7 +77,7 @@ fn into_lines(
     wt: &mut [u32],
     out: &mut [u8],
 ) -> Lines
-    requires { ⌜ Lent frame (length (now lb)) (length (now lt)) (length (now wb)) (length (now wt)) ⌝ }
+    requires { ⌜ BuffersLongEnough frame (length (now lb)) (length (now lt)) (length (now wb)) (length (now wt)) ⌝ }
     requires { ⌜ bodyUnits (raws (now body)) ≤ 4096 ⌝ }
     ensures { λ r. ⌜ LinesSmall r ⌝ }
     ensures { λ r. ⌜ IntoLines frame (now (body .entry)) (now (out .entry)) r (now (out .exit)) ⌝ }

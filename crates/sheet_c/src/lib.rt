@@ -6,15 +6,15 @@ use append_subrender::append_subrender;
 use append_subrender::append_vert_row;
 use fields::answer::Rendered;
 use render::render;
-use rows::Setup;
+use rows::RenderOptions;
 ghost use mathlib.Core.Path.{_≡_};
 ghost use Rattle.block.specs.Answer.{renderAnswer};
 ghost use Rattle.rows.specs.Answer.{subrenderAnswer, columnsAnswer, vertRowAnswer};
-ghost use Rattle.sheet_c.specs.Tells.{answer, Tells, setup};
+ghost use Rattle.sheet_c.specs.CAnswer.{answer, CAnswer, options};
 
 // The number of what a call says, and its length: the sheet's, 0 for a refusal, and for refusal 8 the length needed.
 fn tell(said: Rendered, length: &mut u64) -> u8
-    ensures { λ r. ⌜ Tells said r (now (length .exit)) ⌝ }
+    ensures { λ r. ⌜ CAnswer said r (now (length .exit)) ⌝ }
 {
     match said {
         Rendered::Sheet(bytes) => {
@@ -56,15 +56,15 @@ pub extern "C" fn sheet_append_subrender(
     length: &mut u64,
 ) -> u8
     ensures { λ r. ⌜ answer r (now (length .exit)) (now (store .exit))
-        ≡ subrenderAnswer (setup width pad borders annotation) (now (sheet .entry)) (now (guest .entry)) (now (prefixes .entry)) «repeat_last» (now (store .entry)) ⌝ }
+        ≡ subrenderAnswer (options width pad borders annotation) (now (sheet .entry)) (now (guest .entry)) (now (prefixes .entry)) «repeat_last» (now (store .entry)) ⌝ }
 {
-    let setup = Setup {
+    let options = RenderOptions {
         width,
         pad,
         borders,
         annotation,
     };
-    let said = append_subrender(setup, sheet, guest, prefixes, repeat_last, store);
+    let said = append_subrender(options, sheet, guest, prefixes, repeat_last, store);
     tell(said, length)
 }
 
@@ -81,15 +81,16 @@ pub extern "C" fn sheet_append_columns_with_borders(
     store: &mut [u8],
     length: &mut u64,
 ) -> u8
-    ensures { λ r. ⌜ answer r (now (length .exit)) (now (store .exit)) ≡ columnsAnswer (setup width pad borders annotation) (now (sheet .entry)) (now (cells .entry)) collapse (now (store .entry)) ⌝ }
+    ensures { λ r. ⌜ answer r (now (length .exit)) (now (store .exit))
+        ≡ columnsAnswer (options width pad borders annotation) (now (sheet .entry)) (now (cells .entry)) collapse (now (store .entry)) ⌝ }
 {
-    let setup = Setup {
+    let options = RenderOptions {
         width,
         pad,
         borders,
         annotation,
     };
-    let said = append_columns_with_borders(setup, sheet, cells, collapse, store);
+    let said = append_columns_with_borders(options, sheet, cells, collapse, store);
     tell(said, length)
 }
 
@@ -105,14 +106,14 @@ pub extern "C" fn sheet_append_vert_row(
     store: &mut [u8],
     length: &mut u64,
 ) -> u8
-    ensures { λ r. ⌜ answer r (now (length .exit)) (now (store .exit)) ≡ vertRowAnswer (setup width pad borders annotation) (now (sheet .entry)) (now (cells .entry)) (now (store .entry)) ⌝ }
+    ensures { λ r. ⌜ answer r (now (length .exit)) (now (store .exit)) ≡ vertRowAnswer (options width pad borders annotation) (now (sheet .entry)) (now (cells .entry)) (now (store .entry)) ⌝ }
 {
-    let setup = Setup {
+    let options = RenderOptions {
         width,
         pad,
         borders,
         annotation,
     };
-    let said = append_vert_row(setup, sheet, cells, store);
+    let said = append_vert_row(options, sheet, cells, store);
     tell(said, length)
 }

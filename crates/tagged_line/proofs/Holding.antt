@@ -22,7 +22,7 @@ use Rattle.borders.proofs.Drawing.{glyph-cols, drawn-append, drawn-chars}
 use Rattle.block.specs.Demands.{WellFormed}
 use Rattle.rows.specs.TaggedLine.{join, push-str, push-ws, pad-to}
 use Rattle.rows.proofs.Lines.{text-width-nil, push-width, push-formed, spaces-formed, spaces-width}
-use Rattle.tagged_line.specs.Held.{Grown, Held, Opens, Pushes, PushesSpaces, Pads, Draws}
+use Rattle.tagged_line.specs.Held.{LineGrown, Held, MakesRoom, Pushes, PushesSpaces, Pads, Draws}
 use Rattle.tagged_line.specs.declared.line.Line.{Line}
 
 -- ---- stores
@@ -95,7 +95,7 @@ cols-pushed st l out p a c t h k w = omega (arith, h .cols, w, push-width l a t 
 
 -- Nothing is put in.
 pub open-none : (out : List ℕ) (p : Line) (a n c : ℕ) → n ≡ 0
-    → Opens out p a n c out (record { base = p .base; at = p .at; piece = p .piece; annotation = p .annotation; cols = p .cols + c })
+    → MakesRoom out p a n c out (record { base = p .base; at = p .at; piece = p .piece; annotation = p .annotation; cols = p .cols + c })
 unfolding push-str
 open-none out p a n c z st l [] out″ h e k w q = record {
   bytes = λ short. q ∙ h .bytes short;
@@ -110,7 +110,7 @@ open-none out p a n c z st l (b ∷ t) out″ h e k w q = absurd (omega arith)
 -- Text at the end of the open piece, whose length is written again.
 pub open-same : (out out′ : List ℕ) (p : Line) (a n c m : ℕ) → (n ≡ 0 → ⊥) → p .piece + 4 ≤ p .at → p .annotation ≡ a
     → m + p .piece + 3 ≡ p .at + n → out′ ≡ sets out (p .piece + 1) (two (m % 65536))
-    → Opens out p a n c out′ (record { base = p .base; at = p .at + n; piece = p .piece; annotation = a; cols = p .cols + c })
+    → MakesRoom out p a n c out′ (record { base = p .base; at = p .at + n; piece = p .piece; annotation = a; cols = p .cols + c })
 unfolding push-str field
 open-same out out′ p a n c m z o same em eo st l [] out″ h e k w q = absurd (z (sym e))
 open-same out out′ p a n c m z o same em eo st l (b ∷ t) out″ h e k w q = go (h .opened o)
@@ -157,7 +157,7 @@ join-apart st l out p a t h (inr o) = h .closed o a t
 pub open-new : (out o1 out′ : List ℕ) (p : Line) (a n c first start : ℕ) → (n ≡ 0 → ⊥)
     → ((p .piece + 4 ≤ p .at) × (p .annotation ≡ a → ⊥)) ⊎ (p .at < p .piece + 4)
     → Wrote out (p .at) (head 0x53 ((n + 1) % 65536)) o1 first → Wrote o1 first (a ∷ []) out′ start
-    → Opens out p a n c out′ (record { base = p .base; at = start + n; piece = p .at; annotation = a; cols = p .cols + c })
+    → MakesRoom out p a n c out′ (record { base = p .base; at = start + n; piece = p .at; annotation = a; cols = p .cols + c })
 unfolding push-str field
 open-new out o1 out′ p a n c first start z new w1 w2 st l [] out″ h e k w q = absurd (z (sym e))
 open-new out o1 out′ p a n c first start z new w1 w2 st l (b ∷ t) out″ h e k w q =
@@ -185,12 +185,12 @@ open-new out o1 out′ p a n c first start z new w1 w2 st l (b ∷ t) out″ h e
 -- ---- what is pushed
 
 -- Text, once there is room for it.
-pub pushed : (out out′ out″ : List ℕ) (p r : Line) (a c next : ℕ) (t : List ℕ) → Opens out p a (length t) c out′ r
+pub pushed : (out out′ out″ : List ℕ) (p r : Line) (a c next : ℕ) (t : List ℕ) → MakesRoom out p a (length t) c out′ r
     → Wrote out′ (r .at - length t) t out″ next → Pushes out p a t c out″ r
 pushed out out′ out″ p r a c next t o w st l h k e = o st l t out″ h refl k e (w .store)
 
 -- Spaces.
-pub pushed-spaces : (out out′ out″ : List ℕ) (p r : Line) (a n next : ℕ) → Opens out p a n n out′ r
+pub pushed-spaces : (out out′ out″ : List ℕ) (p r : Line) (a n next : ℕ) → MakesRoom out p a n n out′ r
     → Wrote out′ (r .at - n) (replicate n 0x20) out″ next → PushesSpaces out p n a out″ r
 unfolding push-ws
 pushed-spaces out out′ out″ p r a n next o w st l h =
@@ -222,8 +222,8 @@ unfolding text-width
 drawn-width lines b = rw (drawn-chars lines b) (ones-width lines b)
 
 -- The line goes on by no more than four bytes a column.
-pub drawn-grown : (p r : Line) (n tail k more w : ℕ) → Grown p r (4 + (n + tail) + (k + more)) → n ≤ 3 * k → tail ≤ 3 * more → more ≡ w - k
-    → Grown p r (4 + 4 * k + 4 * w)
+pub drawn-grown : (p r : Line) (n tail k more w : ℕ) → LineGrown p r (4 + (n + tail) + (k + more)) → n ≤ 3 * k → tail ≤ 3 * more → more ≡ w - k
+    → LineGrown p r (4 + 4 * k + 4 * w)
 drawn-grown p r n tail k more w g a b c = record {
   base = g .base;
   piece = g .piece;
@@ -235,7 +235,7 @@ drawn-grown p r n tail k more w g a b c = record {
 
 -- A border's drawing and its stretch, once there is room for both.
 pub pushed-drawn : (out out′ o1 out″ : List ℕ) (p r : Line) (a n tail more w at next : ℕ) (segs : List ℕ) (lines : Bool)
-    → Opens out p a (n + tail) (length segs + more) out′ r → n + tail ≤ r .at → n ≡ length (drawn lines segs)
+    → MakesRoom out p a (n + tail) (length segs + more) out′ r → n + tail ≤ r .at → n ≡ length (drawn lines segs)
     → tail ≡ length (drawn lines (replicate more Horiz)) → more ≡ w - length segs
     → Wrote out′ (r .at - tail - n) (drawn lines segs) o1 at → Wrote o1 at (drawn lines (replicate more Horiz)) out″ next
     → Draws out p a segs w lines out″ r

@@ -30,8 +30,8 @@ use Rattle.fields.proofs.Sets.{sets-append, wrote-then, wrote-none}
 use Rattle.block.specs.Demands.{WellFormed}
 use Rattle.rows.specs.TaggedLine.{WellFormedPiece, join, push, addPiece, addPieces}
 use Rattle.rows.proofs.Lines.{line-width-append, readable-formed}
-use Rattle.tagged_line.specs.Held.{Within, Grown, Held, Pushes}
-use Rattle.tagged_line.specs.Pieces.{PiecesOf, AddsFragment, AddsText, AddsPiece, AddsPieces, Copies}
+use Rattle.tagged_line.specs.Held.{Within, LineGrown, Held, Pushes}
+use Rattle.tagged_line.specs.Pieces.{PiecesOf, AddsFragment, AddsTextPiece, AddsPiece, AddsPieces, Copies}
 use Rattle.tagged_line.specs.declared.line.Line.{Line}
 use Rattle.tagged_line.proofs.Holding.{pieces-append}
 
@@ -191,7 +191,7 @@ pub tail-size : (t : List ℕ) → length (take (length t - 1) (drop 1 t)) ≡ l
 tail-size t = ap length (rest t 1) ∙ length-drop 1 t
 
 -- What is too short holds no text.
-pub laid-short : (out : List ℕ) (p : Line) (t : List ℕ) (joins : Bool) → length t < 2 → AddsText out p t joins out p
+pub laid-short : (out : List ℕ) (p : Line) (t : List ℕ) (joins : Bool) → length t < 2 → AddsTextPiece out p t joins out p
 laid-short out p t joins k q e r st l h = absurd (omega (arith, read-str t q e .0))
 
 -- text that passes refusal 3 is well-formed
@@ -202,7 +202,7 @@ formed (fragment n) e = tt
 -- A text, pushed.
 pub laid-joined : (out out′ : List ℕ) (p r : Line) (t : List ℕ) (joins : Bool) (c : ℕ) → joins ≡ true
     → c ≡ text-width (take (length t - 1) (drop 1 t)) → Pushes out p (getD t 0 0) (take (length t - 1) (drop 1 t)) c out′ r
-    → AddsText out p t joins out′ r
+    → AddsTextPiece out p t joins out′ r
 unfolding addPiece push
 laid-joined out out′ p r t joins c ej ec f q e ok st l h =
     let (long, eq, eb) = read-str t q e in
@@ -212,7 +212,7 @@ laid-joined out out′ p r t joins c ej ec f q e ok st l h =
 -- A text, written at the end of a line as it stands.
 pub laid-apart : (out out′ : List ℕ) (p : Line) (end : ℕ) (t : List ℕ) (joins : Bool) (c : ℕ) → joins ≡ false
     → c ≡ text-width (take (length t - 1) (drop 1 t)) → Wrote out (p .at) (field 0x53 t) out′ end
-    → AddsText out p t joins out′ (record { base = p .base; at = end; piece = p .at; annotation = getD t 0 0; cols = p .cols + c })
+    → AddsTextPiece out p t joins out′ (record { base = p .base; at = end; piece = p .at; annotation = getD t 0 0; cols = p .cols + c })
 unfolding addPiece field
 laid-apart out out′ p end t joins c ej ec w q e ok st l h =
     let (long, eq, eb) = read-str t q e in
@@ -232,7 +232,7 @@ laid-apart out out′ p end t joins c ej ec w q e ok st l h =
 
 -- An S field.
 pub laid-text : (out out′ : List ℕ) (p r : Line) (letter : ℕ) (t : List ℕ) (joins : Bool) → letter ≡ 0x53
-    → AddsText out p t joins out′ r → AddsPiece out p letter t joins out′ r
+    → AddsTextPiece out p t joins out′ r → AddsPiece out p letter t joins out′ r
 unfolding readPiece
 laid-text out out′ p r letter t joins el f q e ok st l h = f q (rw (eq-eqb letter 0x53 el) at e) ok st l h
 
@@ -358,19 +358,19 @@ module _ (out₀ : List ℕ) (place : ℕ) (s out : List ℕ) (to at : ℕ) (w :
 -- ---- laying
 
 -- so much growth is more
-pub grown-more : (p r : Line) (n m : ℕ) → Grown p r n → n ≤ m → Grown p r m
+pub grown-more : (p r : Line) (n m : ℕ) → LineGrown p r n → n ≤ m → LineGrown p r m
 grown-more p r n m g k =
     record { base = g .base; piece = g .piece; on = g .on; at = omega (arith, g .at); wider = g .wider; cols = omega (arith, g .cols) }
 
 -- nothing is put in
-pub grown-none : (p : Line) (n m : ℕ) → Within p n → Grown p p m
+pub grown-none : (p : Line) (n m : ℕ) → Within p n → LineGrown p p m
 grown-none p n m w =
     record { base = refl; piece = w .piece; on = omega arith; at = omega arith; wider = omega arith; cols = omega arith }
 
 -- the pieces up to a place of the content s are laid
 pub record Laid (out₀ : List ℕ) (p₀ : Line) (s : List ℕ) (joins rejoins : Bool) (out : List ℕ) (p : Line) (join : Bool) (at : ℕ) : Type 0 where
   pub inside : at ≤ length s
-  pub grown : Grown p₀ p (3 * at)
+  pub grown : LineGrown p₀ p (3 * at)
   pub size : length out ≡ length out₀
   pub left : (ps : List Piece) → PiecesOf s ps → all readablePiece ps ≡ true → (st : List ℕ) (l : List Piece) → Held st l out₀ p₀
       → (m : List Piece) × (rs : List Piece) × PiecesOf (drop at s) rs × (all readablePiece rs ≡ true)
@@ -403,7 +403,7 @@ module _ (out₀ : List ℕ) (p₀ : Line) (s : List ℕ) (joins rejoins : Bool)
 
   -- one field on
   pub lay-on : (out′ : List ℕ) (r : Line) (letter start past : ℕ) → FieldIs s at letter start past → length out′ ≡ length out
-      → Grown p r (3 + 3 * length (take (past - start) (drop start s)))
+      → LineGrown p r (3 + 3 * length (take (past - start) (drop start s)))
       → AddsPiece out p letter (take (past - start) (drop start s)) join out′ r → Laid out₀ p₀ s joins rejoins out′ r rejoins past
   unfolding addPieces all
   lay-on out′ r letter start past f k g a =

@@ -24,7 +24,7 @@ pub record Within (p : Line) (n : ℕ) : Type 0 where
   pub cols : p .cols + n < 2 ^ 62
 
 -- the line goes on from p to r, by n at most
-pub record Grown (p r : Line) (n : ℕ) : Type 0 where
+pub record LineGrown (p r : Line) (n : ℕ) : Type 0 where
   pub base : r .base ≡ p .base
   pub piece : r .piece ≤ r .at
   pub on : p .at ≤ r .at
@@ -51,8 +51,8 @@ pub record Held (st : List ℕ) (l : List Piece) (out : List ℕ) (p : Line) : T
 -- ---- what is done to it, whatever the line
 
 -- room was made: once the text stands before the end, it is pushed
-abbrev pub Opens : List ℕ → Line → ℕ → ℕ → ℕ → List ℕ → Line → Type 0
-Opens out p a n c out′ r =
+abbrev pub MakesRoom : List ℕ → Line → ℕ → ℕ → ℕ → List ℕ → Line → Type 0
+MakesRoom out p a n c out′ r =
     (st : List ℕ) (l : List Piece) (t out″ : List ℕ) → Held st l out p → length t ≡ n → WellFormed t → text-width t ≡ c
     → out″ ≡ sets out′ (r .at - n) t → Held st (push-str l a t) out″ r
 

@@ -22,8 +22,8 @@ AddsFragment out p name out′ r =
     (st : List ℕ) (l : List Piece) → Held st l out p → Held st (l ++ (fragment name ∷ [])) out′ r
 
 -- a text
-abbrev pub AddsText : List ℕ → Line → List ℕ → Bool → List ℕ → Line → Type 0
-AddsText out p content joins out′ r =
+abbrev pub AddsTextPiece : List ℕ → Line → List ℕ → Bool → List ℕ → Line → Type 0
+AddsTextPiece out p content joins out′ r =
     (q : Piece) → readStr content ≡ some q → readablePiece q ≡ true
     → (st : List ℕ) (l : List Piece) → Held st l out p → Held st (addPiece joins l q) out′ r
 

@@ -11,7 +11,7 @@ ghost use mathlib.Core.Path.{_≡_};
 ghost use Prim.Native.Nat.{_+_, _-_, _*_, _^_, _≤_, _<_};
 ghost use lib.ListN.{length};
 ghost use Rattle.borders.specs.BorderHoriz.{drawn};
-ghost use Rattle.tagged_line.specs.Held.{Within, Grown, Opens, Pushes, PushesSpaces, Draws, Pads, newLine};
+ghost use Rattle.tagged_line.specs.Held.{Within, LineGrown, MakesRoom, Pushes, PushesSpaces, Draws, Pads, newLine};
 
 // Where the writing of a line stands: where its content begins and where it ends so far; the place of the S field that
 // is open at its end, four bytes back or more, and its annotation; and the columns so far.
@@ -42,8 +42,8 @@ pub fn new_line(place: usize) -> Line
 // The text is to be put in before the end of the line that is answered.
 fn open_text(out: &mut [u8], line: Line, annotation: u8, n: usize, cols: usize) -> Line
     requires { ⌜ Within line (4 + n + cols) ⌝ }
-    ensures { λ r. ⌜ Grown line r (4 + n + cols) × (line .at + n ≤ r .at) ⌝ }
-    ensures { λ r. ⌜ Opens (now (out .entry)) line annotation n cols (now (out .exit)) r ⌝ }
+    ensures { λ r. ⌜ LineGrown line r (4 + n + cols) × (line .at + n ≤ r .at) ⌝ }
+    ensures { λ r. ⌜ MakesRoom (now (out .entry)) line annotation n cols (now (out .exit)) r ⌝ }
 {
     let base = line.base;
     let at = line.at;
@@ -85,7 +85,7 @@ fn open_text(out: &mut [u8], line: Line, annotation: u8, n: usize, cols: usize) 
 // `push_str`, of a text whose columns are known.
 pub fn push_str(out: &mut [u8], line: Line, annotation: u8, text: &[u8], cols: usize) -> Line
     requires { ⌜ Within line (4 + length (now text) + cols) ⌝ }
-    ensures { λ r. ⌜ Grown line r (4 + length (now (text .entry)) + cols) ⌝ }
+    ensures { λ r. ⌜ LineGrown line r (4 + length (now (text .entry)) + cols) ⌝ }
     ensures { λ r. ⌜ Pushes (now (out .entry)) line annotation (now (text .entry)) cols (now (out .exit)) r ⌝ }
 {
     let n = text.len();
@@ -97,7 +97,7 @@ pub fn push_str(out: &mut [u8], line: Line, annotation: u8, text: &[u8], cols: u
 // `push_ws`: n spaces.
 pub fn push_ws(out: &mut [u8], line: Line, n: usize, annotation: u8) -> Line
     requires { ⌜ Within line (4 + n + n) ⌝ }
-    ensures { λ r. ⌜ Grown line r (4 + n + n) ⌝ }
+    ensures { λ r. ⌜ LineGrown line r (4 + n + n) ⌝ }
     ensures { λ r. ⌜ PushesSpaces (now (out .entry)) line n annotation (now (out .exit)) r ⌝ }
 {
     let next = open_text(out, line, annotation, n, n);
@@ -108,7 +108,7 @@ pub fn push_ws(out: &mut [u8], line: Line, n: usize, annotation: u8) -> Line
 // `pad_to`: spaces up to a width.
 pub fn pad_to(out: &mut [u8], line: Line, width: usize, annotation: u8) -> Line
     requires { ⌜ Within line (4 + width + width) ⌝ }
-    ensures { λ r. ⌜ Grown line r (4 + width + width) ⌝ }
+    ensures { λ r. ⌜ LineGrown line r (4 + width + width) ⌝ }
     ensures { λ r. ⌜ Pads (now (out .entry)) line width annotation (now (out .exit)) r ⌝ }
 {
     if line.cols < width {
@@ -130,7 +130,7 @@ pub fn push_drawn(
 ) -> Line
     requires { ⌜ (n ≡ length (drawn lines (now segs))) × (n ≤ 3 * length (now segs)) × (length (now segs) < 2 ^ 20) × (width < 2 ^ 20) ⌝ }
     requires { ⌜ Within line (7 + 4 * length (now segs) + 4 * width) ⌝ }
-    ensures { λ r. ⌜ Grown line r (4 + 4 * length (now (segs .entry)) + 4 * width) ⌝ }
+    ensures { λ r. ⌜ LineGrown line r (4 + 4 * length (now (segs .entry)) + 4 * width) ⌝ }
     ensures { λ r. ⌜ Draws (now (out .entry)) line annotation (now (segs .entry)) width lines (now (out .exit)) r ⌝ }
 {
     let k = segs.len();

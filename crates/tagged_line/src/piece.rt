@@ -8,13 +8,13 @@ use fields::store::put_field;
 ghost use mathlib.Core.Path.{_≡_};
 ghost use Prim.Native.Nat.{_+_, _*_, _^_, _≤_, _<_};
 ghost use lib.ListN.{length};
-ghost use Rattle.tagged_line.specs.Held.{Within, Grown};
-ghost use Rattle.tagged_line.specs.Pieces.{AddsFragment, AddsText, AddsPiece, AddsPieces, Copies};
+ghost use Rattle.tagged_line.specs.Held.{Within, LineGrown};
+ghost use Rattle.tagged_line.specs.Pieces.{AddsFragment, AddsTextPiece, AddsPiece, AddsPieces, Copies};
 
 // A name: an F field as it stands, after which no piece of text is open.
 fn add_fragment(out: &mut [u8], line: Line, name: &[u8]) -> Line
     requires { ⌜ Within line (4 + 2 * length (now name)) × (length (now name) < 65536) ⌝ }
-    ensures { λ r. ⌜ Grown line r (3 + length (now (name .entry))) ⌝ }
+    ensures { λ r. ⌜ LineGrown line r (3 + length (now (name .entry))) ⌝ }
     ensures { λ r. ⌜ AddsFragment (now (out .entry)) line (now (name .entry)) (now (out .exit)) r ⌝ }
 {
     let end = put_field(out, line.at, b'F', name);
@@ -28,10 +28,10 @@ fn add_fragment(out: &mut [u8], line: Line, name: &[u8]) -> Line
 }
 
 // The content of an S field: pushed, or put after the others as it stands. What is no S field's content adds nothing.
-fn add_text(out: &mut [u8], line: Line, content: &[u8], joins: bool) -> Line
+fn add_text_piece(out: &mut [u8], line: Line, content: &[u8], joins: bool) -> Line
     requires { ⌜ Within line (4 + 3 * length (now content)) × (length (now content) < 65536) ⌝ }
-    ensures { λ r. ⌜ Grown line r (3 + 3 * length (now (content .entry))) ⌝ }
-    ensures { λ r. ⌜ AddsText (now (out .entry)) line (now (content .entry)) joins (now (out .exit)) r ⌝ }
+    ensures { λ r. ⌜ LineGrown line r (3 + 3 * length (now (content .entry))) ⌝ }
+    ensures { λ r. ⌜ AddsTextPiece (now (out .entry)) line (now (content .entry)) joins (now (out .exit)) r ⌝ }
 {
     if content.len() < 2 {
         return line;
@@ -55,11 +55,11 @@ fn add_text(out: &mut [u8], line: Line, content: &[u8], joins: bool) -> Line
 // One field of a line: a text, or a name.
 fn add_piece(out: &mut [u8], line: Line, letter: u8, content: &[u8], joins: bool) -> Line
     requires { ⌜ Within line (4 + 3 * length (now content)) × (length (now content) < 65536) ⌝ }
-    ensures { λ r. ⌜ Grown line r (3 + 3 * length (now (content .entry))) ⌝ }
+    ensures { λ r. ⌜ LineGrown line r (3 + 3 * length (now (content .entry))) ⌝ }
     ensures { λ r. ⌜ AddsPiece (now (out .entry)) line letter (now (content .entry)) joins (now (out .exit)) r ⌝ }
 {
     if letter == b'S' {
-        return add_text(out, line, content, joins);
+        return add_text_piece(out, line, content, joins);
     }
     add_fragment(out, line, content)
 }
@@ -68,7 +68,7 @@ fn add_piece(out: &mut [u8], line: Line, letter: u8, content: &[u8], joins: bool
 // With both flags it is `consume`; with the first alone a line behind its prefix.
 pub fn add_pieces(out: &mut [u8], line: Line, content: &[u8], joins: bool, rejoins: bool) -> Line
     requires { ⌜ Within line (4 + 3 * length (now content)) × (length (now content) < 65536) ⌝ }
-    ensures { λ r. ⌜ Grown line r (3 * length (now (content .entry))) ⌝ }
+    ensures { λ r. ⌜ LineGrown line r (3 * length (now (content .entry))) ⌝ }
     ensures { λ r. ⌜ AddsPieces (now (out .entry)) line (now (content .entry)) joins rejoins (now (out .exit)) r ⌝ }
 {
     let mut next = line;

@@ -2,7 +2,7 @@
 
 #![allow(dead_code)]
 
-use sheet::Setup;
+use sheet::RenderOptions;
 
 /// M1's job: width 8, "bolt M8 zinc".
 pub const M1: &str = "57 00 03 08 00 00 54 00 0F 00 00 00 62 6F 6C 74 20 4D 38 20 7A 69 6E 63";
@@ -19,7 +19,7 @@ pub const JOINED: &str = "48 00 02 00 03 42 00 06 00 00 00 02 00 00 4C 00 0B 53 
     94 82 63 64 42 00 06 00 00 00 01 00 00";
 
 /// Width 5, pad off, borders on, annotation 0.
-pub const PLAIN: Setup = Setup {
+pub const PLAIN: RenderOptions = RenderOptions {
     width: 5,
     pad: false,
     borders: true,

@@ -33,7 +33,7 @@ same-length : tie.Need-same-length
 same-length c = search needs
 
 -- the number of refusals 1 to 3
-number : (c : tie.After-first-of2) → c .first-of2 .result ≡ cellsNumber (c .before .before .before .before .before .before .before .before .args .setup) (now (c .before .before .before .before .before .before .before .before .args .sheet)) (now (c .before .before .before .before .before .before .before .before .args .cells))
+number : (c : tie.After-first-of2) → c .first-of2 .result ≡ cellsNumber (c .before .before .before .before .before .before .before .before .args .options) (now (c .before .before .before .before .before .before .before .before .args .sheet)) (now (c .before .before .before .before .before .before .before .before .args .cells))
 number c =
     c .first-of2 .ensures
     ∙ ap₂ firstOf (c .before .before .first-of .ensures ∙ ap₂ firstOf (c .before .before .before .before .sheet-refusal .ensures) (c .before .before .before .cells-refusal .ensures)) (c .before .width-refusal .ensures)
@@ -42,7 +42,7 @@ returns : tie.Need-returns
 returns c =
     let a = c .before .before .before .before .before .before .before .before .before .before .before .before .before .args in
     let r = c .before .before .refuse in
-    call-refused _ (a .setup) (now (a .sheet)) (now (a .cells)) (now (a .store)) (r .last .1 .0) (a .collapse) (r .result) (number (c .before .before .before .before .before)) (c .before .before .before .before .if1 .taken) (r .ensures)
+    call-refused _ (a .options) (now (a .sheet)) (now (a .cells)) (now (a .store)) (r .last .1 .0) (a .collapse) (r .result) (number (c .before .before .before .before .before)) (c .before .before .before .before .if1 .taken) (r .ensures)
 
 last-line-requires : tie.Need-last-line-requires
 last-line-requires c κs = search needs
@@ -69,7 +69,7 @@ returns-2 c =
     let l = c .before .before .before .before .before .before .before .before .before .last-line in
     let b = c .before .before .before .before .before .starts-border in
     let r = c .before .before .refuse2 in
-    call-six _ (a .setup) (now (a .sheet)) (now (a .cells)) (now (a .store)) (r .last .1 .0) (a .collapse) (c .before .before .before .before .before .before .before .before .if2 .joined) (b .result) (l .result) (r .result) (number (c .before .before .before .before .before .before .before .before .before .before .before)) (c .before .before .before .before .before .before .before .before .before .before .if1 .left) (l .ensures .1) (kind (c .before .before .before .before .before .before .before .before)) (b .ensures) (c .before .before .before .before .before .before .before .if3 .taken) (not-true _ (c .before .before .before .before .before .before .if4 .taken)) (c .before .before .before .before .if5 .taken) (r .ensures)
+    call-six _ (a .options) (now (a .sheet)) (now (a .cells)) (now (a .store)) (r .last .1 .0) (a .collapse) (c .before .before .before .before .before .before .before .before .if2 .joined) (b .result) (l .result) (r .result) (number (c .before .before .before .before .before .before .before .before .before .before .before)) (c .before .before .before .before .before .before .before .before .before .before .if1 .left) (l .ensures .1) (kind (c .before .before .before .before .before .before .before .before)) (b .ensures) (c .before .before .before .before .before .before .before .if3 .taken) (not-true _ (c .before .before .before .before .before .before .if4 .taken)) (c .before .before .before .before .if5 .taken) (r .ensures)
 
 lay-requires : tie.Need-lay-requires
 lay-requires c κs =
@@ -79,7 +79,7 @@ lay-requires c κs =
     let n = number (c .before .before .before .before .before) in
     let zero = c .before .before .before .before .if1 .left in
     let known = c .before .before .before .before .before .before .before .before .before .before .before .before .shared-slice-known .given in
-    (places-ready _ (a .setup) (now (a .sheet)) (now (a .cells)) (l .result) (c .before .before .if2 .joined) n zero (e .0) (e .1) (e .2) (e .3) (kind (c .before .before)), sizes-ready _ (a .setup) (now (a .sheet)) (now (a .cells)) (l .result) n zero (l .ensures .1) (known 3 .fits) (known 4 .fits))
+    (places-ready _ (a .options) (now (a .sheet)) (now (a .cells)) (l .result) (c .before .before .if2 .joined) n zero (e .0) (e .1) (e .2) (e .3) (kind (c .before .before)), sizes-ready _ (a .options) (now (a .sheet)) (now (a .cells)) (l .result) n zero (l .ensures .1) (known 3 .fits) (known 4 .fits))
 
 -- why refusal 6 is not said
 allowed : (c : tie.Joined3-2) → Allowed (now (c .before .before .before .before .before .before .before .before .before .before .before .before .args .cells)) (c .before .before .before .before .before .before .before .before .before .before .before .before .args .collapse) (c .before .if2 .joined)
@@ -94,7 +94,7 @@ returns-3 c =
     let a = c .before .before .before .before .before .before .before .before .before .before .before .before .before .before .before .before .args in
     let l = c .before .before .before .before .before .before .last-line in
     let r = c .before .before .lay in
-    call-laid _ (a .setup) (now (a .sheet)) (now (a .cells)) (now (a .store)) _ (a .collapse) (c .before .before .before .before .before .if2 .joined) (l .result) (r .result) (number (c .before .before .before .before .before .before .before .before)) (c .before .before .before .before .before .before .before .if1 .left) (l .ensures .1) (kind (c .before .before .before .before .before)) (allowed (c .before .before .before .before)) (r .ensures)
+    call-laid _ (a .options) (now (a .sheet)) (now (a .cells)) (now (a .store)) _ (a .collapse) (c .before .before .before .before .before .if2 .joined) (l .result) (r .result) (number (c .before .before .before .before .before .before .before .before)) (c .before .before .before .before .before .before .before .if1 .left) (l .ensures .1) (kind (c .before .before .before .before .before)) (allowed (c .before .before .before .before)) (r .ensures)
 
 pub append-columns-with-borders-spec : {M : Type 1} → statement M
 append-columns-with-borders-spec =

@@ -43,7 +43,7 @@ same-length c = search needs
 
 -- the number that is found
 number : (c : tie.After-first-of3)
-    → c .first-of3 .result ≡ subrenderNumber (c .before .before .before .before .before .before .before .before .before .before .before .args .setup) (now (c .before .before .before .before .before .before .before .before .before .before .before .args .sheet)) (now (c .before .before .before .before .before .before .before .before .before .before .before .args .guest)) (now (c .before .before .before .before .before .before .before .before .before .before .before .args .prefixes))
+    → c .first-of3 .result ≡ subrenderNumber (c .before .before .before .before .before .before .before .before .before .before .before .args .options) (now (c .before .before .before .before .before .before .before .before .before .before .before .args .sheet)) (now (c .before .before .before .before .before .before .before .before .before .before .before .args .guest)) (now (c .before .before .before .before .before .before .before .before .before .before .before .args .prefixes))
 number c =
     c .first-of3 .ensures
     ∙ ap₂ firstOf (c .before .before .before .before .first-of .ensures ∙ ap₂ firstOf (c .before .before .before .before .before .before .sheet-refusal .ensures) (c .before .before .before .before .before .sheet-refusal2 .ensures))
@@ -54,7 +54,7 @@ returns c = subrender-refuses _ _ _ _ _ _ _ _ (number (c .before .before .before
 
 -- where it is 0 the inputs pass
 passes : (c : tie.After-copy-lines-arg)
-    → SubrenderPasses (c .before .before .before .before .before .before .before .before .before .before .before .before .before .args .setup) (readSheet (now (c .before .before .before .before .before .before .before .before .before .before .before .before .before .args .sheet))) (readSheet (now (c .before .before .before .before .before .before .before .before .before .before .before .before .before .args .guest))) (readPrefixes (now (c .before .before .before .before .before .before .before .before .before .before .before .before .before .args .prefixes))) (c .before .before .before .before .before .before .before .before .before .before .before .before .before .args .repeats)
+    → SubrenderPasses (c .before .before .before .before .before .before .before .before .before .before .before .before .before .args .options) (readSheet (now (c .before .before .before .before .before .before .before .before .before .before .before .before .before .args .sheet))) (readSheet (now (c .before .before .before .before .before .before .before .before .before .before .before .before .before .args .guest))) (readPrefixes (now (c .before .before .before .before .before .before .before .before .before .before .before .before .before .args .prefixes))) (c .before .before .before .before .before .before .before .before .before .before .before .before .before .args .repeats)
 passes c = subrender-passes _ _ _ _ _ _ (number (c .before .before)) (c .before .if1 .left)
 
 -- their lines are few

@@ -36,7 +36,7 @@ same-length : tie.Need-same-length
 same-length c = search needs
 
 -- the number that is found
-number : (c : tie.After-first-of2) → c .first-of2 .result ≡ cellsNumber (c .before .before .before .before .before .before .before .before .args .setup) (now (c .before .before .before .before .before .before .before .before .args .sheet)) (now (c .before .before .before .before .before .before .before .before .args .cells))
+number : (c : tie.After-first-of2) → c .first-of2 .result ≡ cellsNumber (c .before .before .before .before .before .before .before .before .args .options) (now (c .before .before .before .before .before .before .before .before .args .sheet)) (now (c .before .before .before .before .before .before .before .before .args .cells))
 number c =
     c .first-of2 .ensures ∙ ap₂ firstOf (c .before .before .first-of .ensures ∙ ap₂ firstOf (c .before .before .before .before .sheet-refusal .ensures) (c .before .before .before .cells-refusal .ensures)) (c .before .width-refusal .ensures)
 
@@ -44,7 +44,7 @@ returns : tie.Need-returns
 returns c = vert-row-refuses _ _ _ _ _ _ (number (c .before .before .before .before .before)) (c .before .before .before .before .if1 .taken) (c .before .before .refuse .ensures)
 
 -- where it is 0 the inputs pass
-passes : (c : tie.After-copy-lines-arg) → CellsPass (c .before .before .before .before .before .before .before .before .before .before .args .setup) (readSheet (now (c .before .before .before .before .before .before .before .before .before .before .args .sheet))) (readCells (now (c .before .before .before .before .before .before .before .before .before .before .args .cells)))
+passes : (c : tie.After-copy-lines-arg) → CellsPass (c .before .before .before .before .before .before .before .before .before .before .args .options) (readSheet (now (c .before .before .before .before .before .before .before .before .before .before .args .sheet))) (readCells (now (c .before .before .before .before .before .before .before .before .before .before .args .cells)))
 passes c = cells-pass _ _ _ _ (number (c .before .before)) (c .before .if1 .left)
 
 -- the old sheet's lines are few

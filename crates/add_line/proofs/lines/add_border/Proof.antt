@@ -18,15 +18,15 @@ push-drawn-requires c κs =
     let few = c .before .before .before .before .before .before .pre .1 in
     ((n .1, n .0, few, omega arith), drawn-within _ _ _ (c .before .before .before .before .before .before .pre .0) (c .before .new-line .ensures) few)
 
-end-line-requires : tie.Need-end-line-requires
-end-line-requires c κs = (c .before .before .before .before .before .before .before .before .before .before .pre .0, drawn-fits _ _ _ _ (c .before .before .before .before .before .new-line .ensures) (c .before .before .before .push-drawn .ensures .0) (c .before .before .before .before .before .before .before .before .before .before .pre .1))
+add-text-line-requires : tie.Need-add-text-line-requires
+add-text-line-requires c κs = (c .before .before .before .before .before .before .before .before .before .before .pre .0, drawn-fits _ _ _ _ (c .before .before .before .before .before .new-line .ensures) (c .before .before .before .push-drawn .ensures .0) (c .before .before .before .before .before .before .before .before .before .before .pre .1))
 
 same-length : tie.Need-same-length
 same-length c = search needs
 
 returns : tie.Need-returns
 returns c =
-    let adds = c .before .before .end-line .ensures in
+    let adds = c .before .before .add-text-line .ensures in
     (adds .0, adds-drawn _ _ _ _ _ _ _ _ _ _ (c .before .before .before .before .before .before .before .before .before .before .if1 .taken) (c .before .before .before .before .before .before .before .before .new-line .ensures) (search needs) (c .before .before .before .before .before .before .push-drawn .ensures .1) (adds .1))
 
 put-border-requires : tie.Need-put-border-requires
@@ -47,7 +47,7 @@ add-border-spec =
     drawn-len-requires
     new-line-requires
     push-drawn-requires
-    end-line-requires
+    add-text-line-requires
     same-length
     returns
     put-border-requires

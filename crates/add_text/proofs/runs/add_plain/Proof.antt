@@ -5,7 +5,7 @@ use native.Mathlib.Omega.{arith}
 use borrow.Author.Needs.{needs}
 use lib.Seq.{length-take-le}
 use Rattle.characters.proofs.Runs.{run-whole}
-use Rattle.add_text.proofs.Inking.{walked-on}
+use Rattle.add_text.proofs.WordChars.{walked-on}
 use Rattle.add_text.proofs.Running.{run-inside, run-most, plain-fits, plain-none, plain-taken}
 use Rattle.add_text.proofs.runs.add_plain.Statement.{statement}
 use Rattle.add_text.proofs.runs.add_plain.Tie as tie

@@ -7,8 +7,8 @@ use Rattle.add_text.proofs.Stopping.{newline-small, newline-keeps}
 use Rattle.add_text.proofs.stops.newline.Statement.{statement}
 use Rattle.add_text.proofs.stops.newline.Tie as tie
 
-close-line-requires : tie.Need-close-line-requires
-close-line-requires c κs = search needs
+force-flush-line-requires : tie.Need-force-flush-line-requires
+force-flush-line-requires c κs = search needs
 
 no-blanks-requires : tie.Need-no-blanks-requires
 no-blanks-requires c κs = search needs
@@ -29,7 +29,7 @@ returns : tie.Need-returns
 returns c =
     let start = c .before .before .before .before .before .before .before .before .before .before .before .before .before .before .before .before in
     let a = start .args in
-    let x = c .before .before .before .before .before .before .before .before .before .close-line .ensures in
+    let x = c .before .before .before .before .before .before .before .before .before .force-flush-line .ensures in
     let e = c .before .no-blanks .ensures in (
       (newline-small (a .frame) (a .st) _ _ (start .pre .0 .0) (start .pre .1) (x .0) e, refl),
       λ d₀ base b wb wt k. newline-keeps (setup (a .frame)) d₀ base b (a .st) _ _ _ _ _ wb wt _ _ _ _ k e (x .1 d₀ base b (k .line)),
@@ -39,7 +39,7 @@ pub newline-spec : {M : Type 1} → statement M
 newline-spec =
     tie.close
     (tie.spec
-    close-line-requires
+    force-flush-line-requires
     no-blanks-requires
     add-t15
     same-length

@@ -34,7 +34,7 @@ returns c =
     let a = start .args in
     let x = c .before .before .before .before .before .before .before .tab-line .ensures in (
       (tab-small (a .frame) (a .st) _ (start .pre .0 .0) (start .pre .1) (x .0), refl),
-      λ d₀ base b t wb wt k ta ann. tab-keeps (setup (a .frame)) t d₀ base b (a .st) _ _ _ _ _ wb wt _ _ _ _ k refl (x .1 d₀ base b t (k .line) (k .neat) ta ann),
+      λ d₀ base b t wb wt k ta ann. tab-keeps (setup (a .frame)) t d₀ base b (a .st) _ _ _ _ _ wb wt _ _ _ _ k refl (x .1 d₀ base b t (k .line) (k .trims) ta ann),
     )
 
 pub tab-spec : {M : Type 1} → statement M

@@ -24,7 +24,7 @@ loop-holds c =
       store = refl;
       n = omega (arith, start .pre);
       place = omega arith;
-      going = λ d₀ base b t o k ta ann. record { next = b; holds = o; neat = k; same = refl };
+      going = λ d₀ base b t o k ta ann. record { next = b; holds = o; trims = k; same = refl };
     }
 
 same-length : tie.Need-same-length Inv-loop μ-loop

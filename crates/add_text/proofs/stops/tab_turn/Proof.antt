@@ -4,7 +4,7 @@ use mathlib.Core.Path.{refl}
 use native.Mathlib.Omega.{arith}
 use borrow.Author.Needs.{needs}
 use Rattle.block.specs.Flat.{onLine, flushLine}
-use Rattle.block.proofs.Neats.{texted, neat-flush, neat-space}
+use Rattle.block.proofs.NonSpaces.{texted, trims-flush, trims-space}
 use Rattle.hard_wrap.specs.Hold.{setup}
 use Rattle.hard_wrap.proofs.Blanks.{blank-on}
 use Rattle.add_text.proofs.Stopping.{turn-edge, turn-blank}
@@ -40,7 +40,7 @@ returns c =
           record {
             next = flushLine (setup (a .frame)) b;
             holds = x .1 d₀ base b o (texted (b .line) (k .line));
-            neat = neat-flush (setup (a .frame)) b k;
+            trims = trims-flush (setup (a .frame)) b k;
             same = λ fuel e. turn-edge (setup (a .frame)) t fuel _ _ b (c .before .before .before .before .before .before .before .before .before .before .if1 .taken) e;
           },
     )
@@ -78,7 +78,7 @@ returns-2 c =
           record {
             next = onLine 0x20 t b;
             holds = blank-on (a .frame) (a .at .line) _ d₀ base (a .lb .now) (a .lt .now) _ _ (a .out .now) (a .tag) b t o ta ann (p .ensures .1) refl refl refl;
-            neat = neat-space t b k;
+            trims = trims-space t b k;
             same = λ fuel e. turn-blank (setup (a .frame)) t fuel _ _ b inside e;
           },
     )

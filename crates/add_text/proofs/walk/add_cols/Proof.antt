@@ -2,7 +2,7 @@
 -- Assumes nothing.
 use mathlib.Core.Logic.{inl, inr, ⊎-elim}
 use borrow.Author.Needs.{needs}
-use Rattle.add_text.proofs.Inking.{walked-on, walked-wrapped, ink-adds, ink-wrapped}
+use Rattle.add_text.proofs.WordChars.{walked-on, walked-wrapped, word-char-adds, word-char-wrapped}
 use Rattle.add_text.proofs.walk.add_cols.Statement.{statement}
 use Rattle.add_text.proofs.walk.add_cols.Tie as tie
 
@@ -36,7 +36,7 @@ returns c =
     let a = start .args in
     let x = c .before .before .before .before .before .push-word in (
       walked-wrapped (a .frame) (x .result) _ (a .run .wrap) _ (c .wrap-on .ensures) (x .ensures .0) (start .pre .1 .1 .wrap),
-      ink-wrapped (a .frame) (a .run) (a .w) (a .part .now) (a .code) (a .cols) (c .before .before .before .before .before .before .tag-of .result) (a .wb .now) (a .wt .now) (x .result) _ _ _ (c .wrap-on .ensures)
+      word-char-wrapped (a .frame) (a .run) (a .w) (a .part .now) (a .code) (a .cols) (c .before .before .before .before .before .before .tag-of .result) (a .wb .now) (a .wt .now) (x .result) _ _ _ (c .wrap-on .ensures)
           (start .pre .1 .0) (start .pre .1 .1 .wrap) (c .before .before .before .before .before .before .tag-of .ensures) (c .before .before .before .before .before .before .before .before .before .before .before .before .before .before .before .before .before .if1 .taken) (c .before .before .before .before .before .before .before .before .before .if2 .taken) (x .ensures .1),
     )
 
@@ -58,7 +58,7 @@ returns-2 c =
     let a = start .args in
     let x = c .before .before .before .before .push-word2 in (
       walked-on (a .frame) (x .result) (a .w .ann) _ (x .ensures .0) (start .pre .0 .0 .ann),
-      ink-adds (a .frame) (a .run) (a .w) (a .part .now) (a .code) (a .cols) (c .before .before .before .before .before .tag-of2 .result) (a .wb .now) (a .wt .now) (x .result) _ _
+      word-char-adds (a .frame) (a .run) (a .w) (a .part .now) (a .code) (a .cols) (c .before .before .before .before .before .tag-of2 .result) (a .wb .now) (a .wt .now) (x .result) _ _
           (start .pre .1 .0) (start .pre .0 .0 .ann) (c .before .before .before .before .before .tag-of2 .ensures) (⊎-elim (λ y. inl (y .8 .left)) (λ y. inr (y .left)) (c .before .before .before .before .before .before .before .before .if1 .came)) (x .ensures .1),
     )
 

@@ -1,7 +1,7 @@
 -- `add_text::walk::add_kept` meets its contract: a blank with a column count is kept, and any other is dropped.
 -- Assumes nothing.
 use borrow.Author.Needs.{needs}
-use Rattle.add_text.proofs.Inking.{width-in, width-some, fits-cols, walked-still, walked-on, kept-some, kept-none}
+use Rattle.add_text.proofs.WordChars.{width-in, width-some, fits-cols, walked-still, walked-on, kept-some, kept-none}
 use Rattle.add_text.proofs.walk.add_kept.Statement.{statement}
 use Rattle.add_text.proofs.walk.add_kept.Tie as tie
 

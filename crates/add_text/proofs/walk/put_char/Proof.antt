@@ -2,8 +2,8 @@
 -- Assumes nothing.
 use mathlib.Core.Path.{sym, _∙_}
 use borrow.Author.Needs.{needs}
-use Rattle.add_text.proofs.Inking.{walked-still}
-use Rattle.add_text.proofs.Walking.{puts-none, puts-ink, puts-blank}
+use Rattle.add_text.proofs.WordChars.{walked-still}
+use Rattle.add_text.proofs.Walking.{puts-none, puts-word-char, puts-blank}
 use Rattle.add_text.proofs.walk.put_char.Statement.{statement}
 use Rattle.add_text.proofs.walk.put_char.Tie as tie
 
@@ -16,8 +16,8 @@ returns c =
 always-takes-space-requires : tie.Need-always-takes-space-requires
 always-takes-space-requires c κs = search needs
 
-add-ink-requires : tie.Need-add-ink-requires
-add-ink-requires c κs = search needs
+add-word-char-requires : tie.Need-add-word-char-requires
+add-word-char-requires c κs = search needs
 
 same-length : tie.Need-same-length
 same-length c = search needs
@@ -28,9 +28,9 @@ same-length-2 c = search needs
 returns-2 : tie.Need-returns-2
 returns-2 c =
     let a = c .before .before .before .before .before .before .before .before .before .before .before .before .before .before .before .before .args in
-    let x = c .before .before .before .before .add-ink .ensures in (
+    let x = c .before .before .before .before .add-word-char .ensures in (
       x .0,
-      puts-ink (a .frame) (a .run) (a .w) (a .code) (a .lb .now) (a .lt .now) (a .wb .now) (a .wt .now) (a .out .now) (a .part .now) _ _ _ (c .before .before .before .before .before .before .before .before .before .if1 .left) (sym (c .before .before .before .before .before .before .before .before .always-takes-space .ensures) ∙ c .before .before .before .before .before .before .before .if2 .taken) (x .1),
+      puts-word-char (a .frame) (a .run) (a .w) (a .code) (a .lb .now) (a .lt .now) (a .wb .now) (a .wt .now) (a .out .now) (a .part .now) _ _ _ (c .before .before .before .before .before .before .before .before .before .if1 .left) (sym (c .before .before .before .before .before .before .before .before .always-takes-space .ensures) ∙ c .before .before .before .before .before .before .before .if2 .taken) (x .1),
     )
 
 add-blank-requires : tie.Need-add-blank-requires
@@ -65,7 +65,7 @@ put-char-spec =
     (tie.spec
     returns
     always-takes-space-requires
-    add-ink-requires
+    add-word-char-requires
     same-length
     same-length-2
     returns-2

@@ -35,7 +35,7 @@ returns c =
     let a = c .before .before .before .before .before .before .before .before .before .args in
     let e = c .before .before .push-drawn .ensures in (
       bottom-grown (a .line) _ (now (a .cells)) (a .end) (a .stop) (a .width) (a .drawn) _ (c .before .before .before .before .before .before .before .before .before .pre .1) (c .before .before .before .before .before .bottom-from .ensures .1) (e .0),
-      column-bottom _ _ _ _ (a .setup) _ _ _ _ _ _ (c .before .before .before .before .before .before .if1 .taken) (c .before .before .before .before .before .bottom-from .ensures .1) (e .1),
+      column-bottom _ _ _ _ (a .options) _ _ _ _ _ _ (c .before .before .before .before .before .before .if1 .taken) (c .before .before .before .before .before .bottom-from .ensures .1) (e .1),
     )
 
 field-at-requires : tie.Need-field-at-requires
@@ -51,29 +51,29 @@ found c = found-at _ _ _ _ _ (sym (c .before .before .before .field-at .ensures 
 short : (c : tie.After-known-told) → c .before .f .given .0 .1 .1 .0 < c .before .f .given .0 .1 .0 + 65536
 short c = found-short _ _ _ _ (c .before .f .given .1) (c .before .before .before .field-at .ensures .1)
 
-sub-add-text : tie.Need-sub-add-text
-sub-add-text c = let r = found (c .before .before) in omega (arith, r .start-is, r .next-is)
+sub-add-cell-text : tie.Need-sub-add-cell-text
+sub-add-cell-text c = let r = found (c .before .before) in omega (arith, r .start-is, r .next-is)
 
-part-add-text-start : tie.Need-part-add-text-start
-part-add-text-start c = let r = found (c .before .before) in omega (arith, r .start-is, r .next-is)
+part-add-cell-text-start : tie.Need-part-add-cell-text-start
+part-add-cell-text-start c = let r = found (c .before .before) in omega (arith, r .start-is, r .next-is)
 
-part-add-text-end : tie.Need-part-add-text-end
-part-add-text-end c = let r = found (c .before .before) in omega (arith, r .start-is, r .next-is, r .inside)
+part-add-cell-text-end : tie.Need-part-add-cell-text-end
+part-add-cell-text-end c = let r = found (c .before .before) in omega (arith, r .start-is, r .next-is, r .inside)
 
-add-text-requires : tie.Need-add-text-requires
-add-text-requires c κs = (c .before .before .before .before .before .before .before .before .before .before .pre .0, content-short _ _ _ _ _ (found (c .before .before .before)) (short (c .before .before .before)), c .before .before .before .before .before .before .before .before .before .before .pre .1 .narrow)
+add-cell-text-requires : tie.Need-add-cell-text-requires
+add-cell-text-requires c κs = (c .before .before .before .before .before .before .before .before .before .before .pre .0, content-short _ _ _ _ _ (found (c .before .before .before)) (short (c .before .before .before)), c .before .before .before .before .before .before .before .before .before .before .pre .1 .narrow)
 
 same-length-2 : tie.Need-same-length-2
 same-length-2 c = search needs
 
 returns-2 : tie.Need-returns-2
 returns-2 c =
-    let e = c .before .before .add-text .ensures in
-    (e .0, column-text _ _ (c .before .before .before .before .before .before .before .before .before .before .before .before .before .args .setup) _ _ _ _ _ _ _ _ (c .before .before .before .before .before .before .before .before .before .before .if1 .left) (sym (c .before .before .before .before .before .before .before .before .before .field-at .ensures .0) ∙ c .before .before .before .before .before .before .before .f .given .1) _ _ (c .before .before .before .before .before .if2 .taken) (e .1))
+    let e = c .before .before .add-cell-text .ensures in
+    (e .0, column-text _ _ (c .before .before .before .before .before .before .before .before .before .before .before .before .before .args .options) _ _ _ _ _ _ _ _ (c .before .before .before .before .before .before .before .before .before .before .if1 .left) (sym (c .before .before .before .before .before .before .before .before .before .field-at .ensures .0) ∙ c .before .before .before .before .before .before .before .f .given .1) _ _ (c .before .before .before .before .before .if2 .taken) (e .1))
 
 returns-3 : tie.Need-returns-3
 returns-3 c =
-    (grown-none _ _ _ (c .before .before .before .before .before .before .before .before .before .pre .0), column-empty _ _ (c .before .before .before .before .before .before .before .before .before .args .setup) _ _ _ _ _ _ _ _ (c .before .before .before .before .before .before .if1 .left) (sym (c .before .before .before .before .before .field-at .ensures .0) ∙ c .before .before .before .f .given .1) (c .before .if2 .left) (c .if3 .taken))
+    (grown-none _ _ _ (c .before .before .before .before .before .before .before .before .before .pre .0), column-empty _ _ (c .before .before .before .before .before .before .before .before .before .args .options) _ _ _ _ _ _ _ _ (c .before .before .before .before .before .before .if1 .left) (sym (c .before .before .before .before .before .field-at .ensures .0) ∙ c .before .before .before .f .given .1) (c .before .if2 .left) (c .if3 .taken))
 
 add-segs : tie.Need-add-segs
 add-segs c = let r = found (c .before .before) in search needs
@@ -108,16 +108,16 @@ returns-4 c =
     let e = c .before .before .push-drawn2 .ensures in
     let n = segments-short _ _ _ _ _ (found (c .before .before .before .before .before .before .before .before)) (short (c .before .before .before .before .before .before .before .before)) in (
       grown-more _ _ _ _ (e .0) (omega (arith, n, c .before .before .before .before .before .before .before .before .before .before .before .before .before .before .before .pre .1 .narrow)),
-      column-border _ _ (c .before .before .before .before .before .before .before .before .before .before .before .before .before .before .before .args .setup) _ _ _ _ _ _ _ _ (c .before .before .before .before .before .before .before .before .before .before .before .before .if1 .left) (sym (c .before .before .before .before .before .before .before .before .before .before .before .field-at .ensures .0) ∙ c .before .before .before .before .before .before .before .before .before .f .given .1) _ _ (c .before .before .before .before .before .before .before .if2 .left) (c .before .before .before .before .before .before .if3 .left) (e .1),
+      column-border _ _ (c .before .before .before .before .before .before .before .before .before .before .before .before .before .before .before .args .options) _ _ _ _ _ _ _ _ (c .before .before .before .before .before .before .before .before .before .before .before .before .if1 .left) (sym (c .before .before .before .before .before .before .before .before .before .before .before .field-at .ensures .0) ∙ c .before .before .before .before .before .before .before .before .before .f .given .1) _ _ (c .before .before .before .before .before .before .before .if2 .left) (c .before .before .before .before .before .before .if3 .left) (e .1),
     )
 
 returns-5 : tie.Need-returns-5
 returns-5 c =
-    (grown-none _ _ _ (c .before .before .before .before .before .before .pre .0), column-broken _ _ (c .before .before .before .before .before .before .args .setup) _ _ _ _ _ (c .before .before .before .if1 .left) (sym (c .before .before .field-at .ensures .0) ∙ c .enum-told .given .1))
+    (grown-none _ _ _ (c .before .before .before .before .before .before .pre .0), column-broken _ _ (c .before .before .before .before .before .before .args .options) _ _ _ _ _ (c .before .before .before .if1 .left) (sym (c .before .before .field-at .ensures .0) ∙ c .enum-told .given .1))
 
 returns-6 : tie.Need-returns-6
 returns-6 c =
-    (grown-none _ _ _ (c .before .before .before .before .before .before .pre .0), column-end _ _ (c .before .before .before .before .before .before .args .setup) _ _ _ _ _ (c .before .before .before .if1 .left) (sym (c .before .before .field-at .ensures .0) ∙ c .enum-told2 .given .1))
+    (grown-none _ _ _ (c .before .before .before .before .before .before .pre .0), column-end _ _ (c .before .before .before .before .before .before .args .options) _ _ _ _ _ (c .before .before .before .if1 .left) (sym (c .before .before .field-at .ensures .0) ∙ c .enum-told2 .given .1))
 
 pub add-column-spec : {M : Type 1} → statement M
 add-column-spec =
@@ -132,10 +132,10 @@ add-column-spec =
     returns
     field-at-requires
     enum-known-f
-    sub-add-text
-    part-add-text-start
-    part-add-text-end
-    add-text-requires
+    sub-add-cell-text
+    part-add-cell-text-start
+    part-add-cell-text-end
+    add-cell-text-requires
     same-length-2
     returns-2
     returns-3

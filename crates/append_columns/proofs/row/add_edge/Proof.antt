@@ -16,7 +16,7 @@ same-length c = search needs
 returns : tie.Need-returns
 returns c =
     let e = c .before .before .push-str .ensures in
-    (search needs, edge-bar _ _ _ _ (c .before .before .before .before .before .before .before .args .setup) (c .before .before .before .before .before .if1 .taken) (e .1))
+    (search needs, edge-bar _ _ _ _ (c .before .before .before .before .before .before .before .args .options) (c .before .before .before .before .before .if1 .taken) (e .1))
 
 slice-aggregate-push-str-2 : tie.Need-slice-aggregate-push-str-2
 slice-aggregate-push-str-2 c = search needs
@@ -30,7 +30,7 @@ same-length-2 c = search needs
 returns-2 : tie.Need-returns-2
 returns-2 c =
     let e = c .before .before .push-str2 .ensures in
-    (search needs, edge-space _ _ _ _ (c .before .before .before .before .before .before .before .args .setup) (c .before .before .before .before .before .if1 .left) (e .1))
+    (search needs, edge-space _ _ _ _ (c .before .before .before .before .before .before .before .args .options) (c .before .before .before .before .before .if1 .left) (e .1))
 
 pub add-edge-spec : {M : Type 1} → statement M
 add-edge-spec =

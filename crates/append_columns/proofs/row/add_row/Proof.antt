@@ -5,20 +5,20 @@ use mathlib.Core.Bool.{Bool}
 use Prim.Native.Nat.{_+_, _-_}
 use native.Mathlib.Omega.{arith}
 use denote.Ref.{now}
-use Rattle.append_columns.specs.Row.{Left}
+use Rattle.append_columns.specs.Row.{LinesLeft}
 use Rattle.append_columns.proofs.RowLaws.{RowsLaid, rows-start, rows-on, rows-end}
 use borrow.Author.Needs.{needs}
 use Rattle.append_columns.proofs.row.add_row.Statement.{statement}
 use Rattle.append_columns.proofs.row.add_row.Tie as tie
 
 abbrev Inv-loop : tie.InvT-loop
-Inv-loop out₀ setup cells at₀ end stop width drawn n next₀ out at next = RowsLaid out₀ next₀ setup cells at₀ end stop width n out at next
+Inv-loop out₀ options cells at₀ end stop width drawn n next₀ out at next = RowsLaid out₀ next₀ options cells at₀ end stop width n out at next
 
 abbrev μ-loop : tie.MeasureT-loop
-μ-loop out₀ setup cells at₀ end stop width drawn n next₀ out at next = next₀ .count + 65536 - next .count
+μ-loop out₀ options cells at₀ end stop width drawn n next₀ out at next = next₀ .count + 65536 - next .count
 
 loop-holds : tie.Need-loop-holds Inv-loop μ-loop
-loop-holds c = rows-start _ _ (c .before .before .args .setup) _ _ _ _ _ _ (c .before .before .pre .0 .0) (c .before .before .pre .1 .0)
+loop-holds c = rows-start _ _ (c .before .before .args .options) _ _ _ _ _ _ (c .before .before .pre .0 .0) (c .before .before .pre .1 .0)
 
 any-left-requires : tie.Need-any-left-requires Inv-loop μ-loop
 any-left-requires c κs = search needs
@@ -37,7 +37,7 @@ loop-again c =
     let a = c .before .before .before .before .before .before .before .before .before .before .before .before .before .args in
     let e = c .before .before .before .before .add-row-line .ensures in
     let f = c .next-lines .ensures in
-    rows-on _ _ (a .setup) _ _ _ _ _ _ _ _ _ (c .before .before .before .before .before .before .before .before .before .before .loop .inv) _ _ _ (c .before .before .before .before .before .before .before .before .before .before .before .before .before .pre .1 .1) (subst (λ (b : Bool). Left b (c .before .before .before .before .before .before .before .before .before .before .loop .at) (now (a .end)) (a .n)) (c .before .before .before .before .before .before .before .if1 .taken) (c .before .before .before .before .before .before .before .before .any-left .ensures)) (search needs) (e .0) (e .1) (f .0) (f .1)
+    rows-on _ _ (a .options) _ _ _ _ _ _ _ _ _ (c .before .before .before .before .before .before .before .before .before .before .loop .inv) _ _ _ (c .before .before .before .before .before .before .before .before .before .before .before .before .before .pre .1 .1) (subst (λ (b : Bool). LinesLeft b (c .before .before .before .before .before .before .before .before .before .before .loop .at) (now (a .end)) (a .n)) (c .before .before .before .before .before .before .before .if1 .taken) (c .before .before .before .before .before .before .before .before .any-left .ensures)) (search needs) (e .0) (e .1) (f .0) (f .1)
 
 same-length : tie.Need-same-length Inv-loop μ-loop
 same-length c = search needs
@@ -46,7 +46,7 @@ returns : tie.Need-returns Inv-loop μ-loop
 returns c =
     let a = c .before .before .before .before .before .before .args in
     let w = c .before .before .before .loop .inv in
-    ((w .bounds, omega (arith, w .high, c .before .before .before .before .before .before .pre .1 .1)), rows-end _ _ (a .setup) _ _ _ _ _ _ _ _ _ w (subst (λ (b : Bool). Left b (c .before .before .before .loop .at) (now (a .end)) (a .n)) (c .if1 .left) (c .before .any-left .ensures)))
+    ((w .bounds, omega (arith, w .high, c .before .before .before .before .before .before .pre .1 .1)), rows-end _ _ (a .options) _ _ _ _ _ _ _ _ _ w (subst (λ (b : Bool). LinesLeft b (c .before .before .before .loop .at) (now (a .end)) (a .n)) (c .if1 .left) (c .before .any-left .ensures)))
 
 pub add-row-spec : {M : Type 1} → statement M
 add-row-spec =

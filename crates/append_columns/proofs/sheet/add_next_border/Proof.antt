@@ -74,7 +74,7 @@ returns c =
     let j = c .before .before .before .before .before .before .before .before .before in
     let m = c .before .before .before .before .before .before .before .merge-bottoms in
     let e = c .before .before .add-border .ensures in
-    (e .0, adds-next _ _ _ (now (a .end)) (now (a .stop)) (now (a .width)) (j .if1 .border) (m .last .0) _ _ (a .setup) (a .joined) (a .n) (j .if1 .len) (m .result) (below j) (m .ensures .1) (e .1))
+    (e .0, adds-next _ _ _ (now (a .end)) (now (a .stop)) (now (a .width)) (j .if1 .border) (m .last .0) _ _ (a .options) (a .joined) (a .n) (j .if1 .len) (m .result) (below j) (m .ensures .1) (e .1))
 
 pub add-next-border-spec : {M : Type 1} → statement M
 add-next-border-spec =

@@ -40,7 +40,7 @@ returns c =
     let a = c .before .before .before .before .before .before .before .before .before .before .before .before .before .before .before .before .before .before .before .before .before .before .before .before .before .before .before .before .before .before .before .before .before .before .before .before .before .before .before .args in
     let e = c .before .before .before .before .before .before .before .before .before .before .before .before .before .before .before .before .before .before .before .before .before .before .before .before .before .before .before .before .before .before .place-cells in
     let f = c .before .before .close in
-    lays-drawn (a .setup) (now (a .sheet)) (now (a .cells)) (now (a .store)) _ _ _ (f .last .1 .0) _ _ _ _ (a .collapse) (a .joined) (a .last) (e .result) _ _ _ (f .result) (c .before .before .before .before .before .before .before .before .before .before .before .before .before .if1 .taken) (e .ensures .1) (c .before .before .before .before .before .before .before .before .before .before .before .before .before .before .before .before .before .before .before .before .before .before .before .before .before .before .add-old .ensures .1) (c .before .before .before .before .before .before .before .before .before .before .before .before .before .before .before .before .add-row .ensures .1) (c .before .before .before .before .before .before .before .add-next-border .ensures .1) (f .ensures)
+    lays-drawn (a .options) (now (a .sheet)) (now (a .cells)) (now (a .store)) _ _ _ (f .last .1 .0) _ _ _ _ (a .collapse) (a .joined) (a .last) (e .result) _ _ _ (f .result) (c .before .before .before .before .before .before .before .before .before .before .before .before .before .if1 .taken) (e .ensures .1) (c .before .before .before .before .before .before .before .before .before .before .before .before .before .before .before .before .before .before .before .before .before .before .before .before .before .before .add-old .ensures .1) (c .before .before .before .before .before .before .before .before .before .before .before .before .before .before .before .before .add-row .ensures .1) (c .before .before .before .before .before .before .before .add-next-border .ensures .1) (f .ensures)
 
 close-requires-2 : tie.Need-close-requires-2
 close-requires-2 c κs = search needs
@@ -53,7 +53,7 @@ returns-2 c =
     let a = c .before .before .before .before .before .before .before .before .before .before .before .before .before .before .before .before .before .before .before .before .before .before .before .before .before .before .before .before .before .before .args in
     let e = c .before .before .before .before .before .before .before .before .before .before .before .before .before .before .before .before .before .before .before .before .before .place-cells in
     let f = c .before .before .close2 in
-    lays-plain (a .setup) (now (a .sheet)) (now (a .cells)) (now (a .store)) _ _ (f .last .1 .0) _ _ _ _ (a .collapse) (a .joined) (a .last) (e .result) _ _ (f .result) (c .before .before .before .before .if1 .left) (e .ensures .1) (c .before .before .before .before .before .before .before .before .before .before .before .before .before .before .before .before .before .add-old .ensures .1) (c .before .before .before .before .before .before .before .add-row .ensures .1) (f .ensures)
+    lays-plain (a .options) (now (a .sheet)) (now (a .cells)) (now (a .store)) _ _ (f .last .1 .0) _ _ _ _ (a .collapse) (a .joined) (a .last) (e .result) _ _ (f .result) (c .before .before .before .before .if1 .left) (e .ensures .1) (c .before .before .before .before .before .before .before .before .before .before .before .before .before .before .before .before .before .add-old .ensures .1) (c .before .before .before .before .before .before .before .add-row .ensures .1) (f .ensures)
 
 pub lay-spec : {M : Type 1} → statement M
 lay-spec =

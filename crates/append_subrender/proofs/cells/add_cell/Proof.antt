@@ -13,10 +13,10 @@ use Rattle.append_subrender.proofs.cells.add_cell.Statement.{statement}
 use Rattle.append_subrender.proofs.cells.add_cell.Tie as tie
 
 abbrev Inv-loop : tie.InvT-loop
-Inv-loop out₀ setup body next₀ at₀ out next at = InCell out₀ next₀ setup body out next at
+Inv-loop out₀ options body next₀ at₀ out next at = InCell out₀ next₀ options body out next at
 
 abbrev μ-loop : tie.MeasureT-loop
-μ-loop out₀ setup body next₀ at₀ out next at = length body - at
+μ-loop out₀ options body next₀ at₀ out next at = length body - at
 
 loop-holds : tie.Need-loop-holds Inv-loop μ-loop
 loop-holds c = within-start _ _ _ _ (c .before .before .pre .0)

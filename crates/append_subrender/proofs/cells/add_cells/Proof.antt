@@ -13,10 +13,10 @@ use Rattle.append_subrender.proofs.cells.add_cells.Statement.{statement
 use Rattle.append_subrender.proofs.cells.add_cells.Tie as tie
 
 abbrev Inv-loop : tie.InvT-loop
-Inv-loop out₀ setup cells next₀ between₀ at₀ out next between at = Stack out₀ next₀ setup cells out next between at
+Inv-loop out₀ options cells next₀ between₀ at₀ out next between at = Stack out₀ next₀ options cells out next between at
 
 abbrev μ-loop : tie.MeasureT-loop
-μ-loop out₀ setup cells next₀ between₀ at₀ out next between at = length cells - at
+μ-loop out₀ options cells next₀ between₀ at₀ out next between at = length cells - at
 
 loop-holds : tie.Need-loop-holds Inv-loop μ-loop
 loop-holds c = stack-start _ _ _ _ (c .before .before .pre .0) (c .before .before .pre .1) (c .before .before .pre .2)

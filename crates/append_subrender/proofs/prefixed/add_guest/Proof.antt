@@ -15,10 +15,10 @@ use Rattle.append_subrender.proofs.prefixed.add_guest.Statement.{statem
 use Rattle.append_subrender.proofs.prefixed.add_guest.Tie as tie
 
 abbrev Inv-loop : tie.InvT-loop
-Inv-loop out₀ setup guest prefixes repeats next₀ prefix₀ at₀ out next prefix at = Walk out₀ next₀ setup guest prefixes repeats out next prefix at
+Inv-loop out₀ options guest prefixes repeats next₀ prefix₀ at₀ out next prefix at = Walk out₀ next₀ options guest prefixes repeats out next prefix at
 
 abbrev μ-loop : tie.MeasureT-loop
-μ-loop out₀ setup guest prefixes repeats next₀ prefix₀ at₀ out next prefix at = length guest - at
+μ-loop out₀ options guest prefixes repeats next₀ prefix₀ at₀ out next prefix at = length guest - at
 
 loop-holds : tie.Need-loop-holds Inv-loop μ-loop
 loop-holds c = walk-start _ _ _ _ _ _ (c .before .before .before .pre .0)

@@ -17,8 +17,8 @@ add-pieces-requires c κs =
     let pre = c .before .before .before .before .before .before .before .before .before .before .pre in
     (grown-within _ _ _ _ _ (pre .0) (c .before .before .before .before .before .before .new-line .ensures) (c .before .before .before .before .push-str .ensures .0) (omega (arith, pre .1, pre .2, pre .3)), pre .3)
 
-end-line-requires : tie.Need-end-line-requires
-end-line-requires c κs =
+add-text-line-requires : tie.Need-add-text-line-requires
+add-text-line-requires c κs =
     let pre = c .before .before .before .before .before .before .before .before .before .before .before .before .before .before .pre in
     (pre .0, grown-fits _ _ _ _ (c .before .before .before .before .before .before .before .before .before .before .new-line .ensures) (grown-twice _ _ _ _ _ (c .before .before .before .before .before .before .before .before .push-str .ensures .0) (c .before .before .before .add-pieces .ensures .0)) (omega (arith, pre .1, pre .2, pre .3)))
 
@@ -27,11 +27,11 @@ same-length c = search needs
 
 returns : tie.Need-returns
 returns c =
-    let end = c .before .before .end-line .ensures in
+    let end = c .before .before .add-text-line .ensures in
     (end .0, prefixed-text _ _ _ _ _ _ _ _ _ _ _ _ _ _ (c .before .before .before .before .before .before .before .before .before .before .before .before .before .new-line .ensures) (c .before .before .before .before .before .before .before .before .if1 .taken) (search needs) (c .before .before .before .before .before .before .before .before .before .before .before .push-str .ensures .1) (c .before .before .before .before .before .before .add-pieces .ensures .1) (end .1))
 
-end-line-requires-2 : tie.Need-end-line-requires-2
-end-line-requires-2 c κs =
+add-text-line-requires-2 : tie.Need-add-text-line-requires-2
+add-text-line-requires-2 c κs =
     let pre = c .before .before .before .before .before .before .before .before .before .before .before .pre in
     (pre .0, grown-fits _ _ _ _ (c .before .before .before .before .before .before .before .new-line .ensures) (c .before .before .before .before .before .push-str .ensures .0) (omega (arith, pre .1, pre .2, pre .3)))
 
@@ -39,7 +39,7 @@ same-length-2 : tie.Need-same-length-2
 same-length-2 c = search needs
 
 returns-2 : tie.Need-returns-2
-returns-2 c = (c .before .before .end-line2 .ensures .0, prefixed-none _ _ _ _ _ _ _ _ _ (c .before .before .before .before .before .if1 .left) (c .before .before .before .before .if2 .taken))
+returns-2 c = (c .before .before .add-text-line2 .ensures .0, prefixed-none _ _ _ _ _ _ _ _ _ (c .before .before .before .before .before .if1 .left) (c .before .before .before .before .if2 .taken))
 
 sub-segs : tie.Need-sub-segs
 sub-segs c = search needs
@@ -59,8 +59,8 @@ push-drawn-requires c κs =
     let n = c .before .drawn-len .ensures in
     ((n .1, n .0, omega arith, omega arith), grown-within _ _ _ _ _ (pre .0) (c .before .before .before .before .before .before .before .before .before .new-line .ensures) (c .before .before .before .before .before .before .before .push-str .ensures .0) (omega (arith, pre .1, pre .2, pre .3)))
 
-end-line-requires-3 : tie.Need-end-line-requires-3
-end-line-requires-3 c κs =
+add-text-line-requires-3 : tie.Need-add-text-line-requires-3
+add-text-line-requires-3 c κs =
     let pre = c .before .before .before .before .before .before .before .before .before .before .before .before .before .before .before .before .before .pre in
     (pre .0, grown-fits _ _ _ _ (c .before .before .before .before .before .before .before .before .before .before .before .before .before .new-line .ensures) (grown-twice _ _ _ _ _ (c .before .before .before .before .before .before .before .before .before .before .before .push-str .ensures .0) (c .before .before .before .push-drawn .ensures .0)) (omega (arith, pre .1, pre .2, pre .3)))
 
@@ -69,7 +69,7 @@ same-length-3 c = search needs
 
 returns-3 : tie.Need-returns-3
 returns-3 c =
-    let end = c .before .before .end-line3 .ensures in
+    let end = c .before .before .add-text-line3 .ensures in
     (end .0, prefixed-border _ _ _ _ _ _ _ _ _ _ _ _ _ _ (c .before .before .before .before .before .before .before .before .before .before .before .before .before .before .before .before .new-line .ensures) (c .before .before .before .before .before .before .before .before .before .before .before .if1 .left) (search needs) (c .before .before .before .before .before .before .before .before .before .before .before .before .before .before .push-str .ensures .1) (c .before .before .before .before .before .before .push-drawn .ensures .1) (end .1))
 
 pub add-prefixed-spec : {M : Type 1} → statement M
@@ -79,10 +79,10 @@ add-prefixed-spec =
     new-line-requires
     push-str-requires
     add-pieces-requires
-    end-line-requires
+    add-text-line-requires
     same-length
     returns
-    end-line-requires-2
+    add-text-line-requires-2
     same-length-2
     returns-2
     sub-segs
@@ -90,6 +90,6 @@ add-prefixed-spec =
     part-segs-end
     drawn-len-requires
     push-drawn-requires
-    end-line-requires-3
+    add-text-line-requires-3
     same-length-3
     returns-3)

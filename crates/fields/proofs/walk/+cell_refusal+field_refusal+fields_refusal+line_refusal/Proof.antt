@@ -17,7 +17,7 @@ use Rattle.fields.specs.declared.walk.Kind.{Kind}
 use Rattle.fields.specs.declared.walk.Kind.the-variants.{Job, Pieces, Lines, Cells, Prefixes}
 use Rattle.fields.proofs.Fields.{FieldIs, field-is, field-broken, field-end}
 use Rattle.fields.proofs.First.{Walk, walk-start, walk-on, walk-broken, walk-end}
-use Rattle.fields.proofs.Sheets.{text-line, no-line, wide-cell, narrow-cell, short-cell, no-cell}
+use Rattle.fields.proofs.Sheets.{text-line, no-line, width-cell, narrow-cell, short-cell, no-cell}
 use Rattle.fields.proofs.Texts.{rest}
 use Rattle.fields.proofs.field.field_at.Reads as field-at
 use Rattle.fields.proofs.field.first_of.Reads as first-of
@@ -111,7 +111,7 @@ pub +cell-refusal+field-refusal+fields-refusal+line-refusal-spec : {M : Type 1} 
     ∙ narrow-cell _ _ (d .before .before .before .if1 .left) (d .before .before .if2 .left) (omega (arith, c .before .if3 .taken)))
     (λ c.
     let d = c .before .before in
-    d .fields-refusal .ensures ∙ wide-cell _ _ (d .before .before .before .if1 .left) (d .before .before .if2 .left) (c .if3 .left)))
+    d .fields-refusal .ensures ∙ width-cell _ _ (d .before .before .before .if1 .left) (d .before .before .if2 .left) (c .if3 .left)))
     (λ t. field-refusal-lts.spec
     (_, job-field-refusal.Learnt, _, piece-refusal.Learnt, _, line-refusal.Post, _, cell-refusal.Post, _, prefix-refusal.Learnt)
     _

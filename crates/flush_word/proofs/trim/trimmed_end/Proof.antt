@@ -4,7 +4,7 @@ use mathlib.Core.Path.{_≡_, refl, _∙_}
 use Prim.Native.Nat.{_≤_}
 use borrow.Author.Needs.{needs}
 use Rattle.lines.specs.Items.{items}
-use Rattle.flush_word.proofs.Trimming.{trim, back-none, back-ink, back-name, back-space, back-done}
+use Rattle.flush_word.proofs.Trimming.{trim, back-none, back-non-space, back-name, back-space, back-done}
 use Rattle.flush_word.proofs.trim.trimmed_end.Statement.{statement}
 use Rattle.flush_word.proofs.trim.trimmed_end.Tie as tie
 
@@ -28,7 +28,7 @@ returns c =
     let start = c .before .before .before .before in
     let a = start .args in
     let w = c .before .before .before .loop in
-    (search needs, back-done (a .lb .now) (a .lt .now) (a .n) (w .k) (w .inv .0) (start .pre .0) (start .pre .1) (w .inv .1) (back-ink (a .lb .now) (a .lt .now) (w .k) (search needs) (search needs) (search needs) (c .if1 .taken)))
+    (search needs, back-done (a .lb .now) (a .lt .now) (a .n) (w .k) (w .inv .0) (start .pre .0) (start .pre .1) (w .inv .1) (back-non-space (a .lb .now) (a .lt .now) (w .k) (search needs) (search needs) (search needs) (c .if1 .taken)))
 
 mul-if2 : tie.Need-mul-if2 Inv-loop μ-loop
 mul-if2 c = search needs

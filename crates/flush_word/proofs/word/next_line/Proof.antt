@@ -1,4 +1,4 @@
--- `flush_word::word::next_line` meets its contract: a neat line with entries has text once its blanks are dropped, so it is closed, and the blanks that are left are written.
+-- `flush_word::word::next_line` meets its contract: a line with entries has text (`TrimsLeaveText`) once its blanks are dropped, so it is closed, and the blanks that are left are written.
 -- Assumes nothing.
 use native.Mathlib.Omega.{arith}
 use borrow.Author.Needs.{needs}
@@ -32,7 +32,7 @@ returns c =
     let f = c .before .before .before .before .before .before .before .before .before .before .before .before .before .before .before .before .before .flush-line .ensures in
     let w = c .before .before .before .before .before .before .write-blanks .ensures in (
       record { n = omega (arith, d .0, f .0, w .0); cols = w .0 .cols; place = omega (arith, d .0, f .0, w .0); lines = w .0 .lines },
-      λ d₀ base b wb wt p o. opens (a .frame) d₀ base b p _ _ _ _ _ _ _ _ _ _ _ _ (o .neat) (d .1 d₀ base b wb wt (a .out .now) o) (f .1) (w .1),
+      λ d₀ base b wb wt p o. opens (a .frame) d₀ base b p _ _ _ _ _ _ _ _ _ _ _ _ (o .trims) (d .1 d₀ base b wb wt (a .out .now) o) (f .1) (w .1),
     )
 
 pub next-line-spec : {M : Type 1} → statement M

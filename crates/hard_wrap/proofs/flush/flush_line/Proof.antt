@@ -18,8 +18,8 @@ returns c =
           (nothing-closed _ _ _ _ _ _ _ o (c .if1 .taken)),
     )
 
-close-line-requires : tie.Need-close-line-requires
-close-line-requires c κs = search needs
+force-flush-line-requires : tie.Need-force-flush-line-requires
+force-flush-line-requires c κs = search needs
 
 same-length : tie.Need-same-length
 same-length c = search needs
@@ -35,7 +35,7 @@ returns-2 c =
     let i = c .before .before .before .before .before .before .before .before .before .before in
     let start = i .before .before .before .before .before in
     let a = start .args in
-    let x = c .before .before .before .before .before .before .close-line .ensures in (
+    let x = c .before .before .before .before .before .before .force-flush-line .ensures in (
       record { n = x .0 .n; cols = x .0 .cols; place = omega (arith, x .0 .place, i .if1 .left); lines = x .0 .lines },
       λ d₀ base b o g.
           let e = line-some _ _ _ _ _ _ _ o (omega (arith, start .pre)) (omega (arith, start .pre)) (i .if1 .left) g in
@@ -45,4 +45,4 @@ returns-2 c =
 pub flush-line-spec : {M : Type 1} → statement M
 flush-line-spec =
     tie.close
-    (tie.spec returns close-line-requires same-length same-length-2 same-length-3 returns-2)
+    (tie.spec returns force-flush-line-requires same-length same-length-2 same-length-3 returns-2)

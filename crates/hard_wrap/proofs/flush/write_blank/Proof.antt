@@ -13,8 +13,8 @@ push-byte-requires c κs = search needs
 add-t13 : tie.Need-add-t13
 add-t13 c = search needs
 
-close-line-requires : tie.Need-close-line-requires
-close-line-requires c κs = search needs
+force-flush-line-requires : tie.Need-force-flush-line-requires
+force-flush-line-requires c κs = search needs
 
 same-length : tie.Need-same-length
 same-length c = search needs
@@ -33,7 +33,7 @@ returns c =
     let start = c18 .before .before .before .before .before .before in
     let a = start .args in
     let p = c18 .push-byte in
-    let x = c6 .close-line .ensures in (
+    let x = c6 .force-flush-line .ensures in (
       record { n = omega (arith, x .0); cols = omega (arith, x .0); place = omega (arith, x .0); lines = x .0 .lines },
       λ d₀ base b t o ta ann.
           holds-same (blank-full (a .frame) (a .st) _ d₀ base (a .lb .now) (a .lt .now) _ _ (a .out .now) (a .tag) b t o ta ann (p .ensures .1) refl refl refl (c10 .if1 .taken))
@@ -64,7 +64,7 @@ write-blank-spec =
     (tie.spec
     push-byte-requires
     add-t13
-    close-line-requires
+    force-flush-line-requires
     same-length
     same-length-2
     same-length-3

@@ -12,11 +12,11 @@ use Rattle.hard_wrap.proofs.piece.wrap_line.Tie as tie
 glyph-requires : tie.Need-glyph-requires
 glyph-requires c κs = search needs
 
-slice-aggregate-end-line : tie.Need-slice-aggregate-end-line
-slice-aggregate-end-line c = sym (length-take-le _ _ (c .before .before .before .glyph .ensures .0 .1))
+slice-aggregate-close-with : tie.Need-slice-aggregate-close-with
+slice-aggregate-close-with c = sym (length-take-le _ _ (c .before .before .before .glyph .ensures .0 .1))
 
-end-line-requires : tie.Need-end-line-requires
-end-line-requires c κs =
+close-with-requires : tie.Need-close-with-requires
+close-with-requires c κs =
     let start = c .before .before .before .before .before .before .before .before .before .before .before .before .before in
     let g = c .before .before .before .before .glyph in
     let l = length-take-le (g .result .len) (start .args .rest .now) (g .ensures .0 .1) in
@@ -41,7 +41,7 @@ returns c =
     let start = c15 .before .before .before .before .before in
     let a = start .args in
     let g = c11 .glyph in
-    let x = c6 .end-line .ensures in (
+    let x = c6 .close-with .ensures in (
       record {
         n = x .0 .n;
         cols = x .0 .cols;
@@ -68,11 +68,11 @@ returns-2 c =
           (a .split) (a .used) s (c3 .if1 .taken) (c .before .if2 .taken) (c .if3 .left),
     )
 
-slice-aggregate-end-line-2 : tie.Need-slice-aggregate-end-line-2
-slice-aggregate-end-line-2 c = sym (length-take-le _ _ (c .before .before .before .before .before .before .before .before .pre .1 .2))
+slice-aggregate-close-with-2 : tie.Need-slice-aggregate-close-with-2
+slice-aggregate-close-with-2 c = sym (length-take-le _ _ (c .before .before .before .before .before .before .before .before .pre .1 .2))
 
-end-line-requires-2 : tie.Need-end-line-requires-2
-end-line-requires-2 c κs =
+close-with-requires-2 : tie.Need-close-with-requires-2
+close-with-requires-2 c κs =
     let start = c .before .before .before .before .before .before .before .before .before in
     let l = length-take-le (start .args .split) (start .args .rest .now) (start .pre .1 .2) in
     omega (arith, l, start .pre)
@@ -92,7 +92,7 @@ returns-3 c =
     let c11 = c6 .before .before .before .before .before in
     let start = c11 .before .before .before .before .before in
     let a = start .args in
-    let x = c6 .end-line2 .ensures in
+    let x = c6 .close-with2 .ensures in
     let m : 0 < a .split + a .st .cols = ⊎-elim (λ y. omega (arith, y .2 .left)) (λ y. omega (arith, y .left)) (c11 .if1 .came) in (
       record {
         n = x .0 .n;
@@ -113,15 +113,15 @@ wrap-line-spec =
     tie.close
     (tie.spec
     glyph-requires
-    slice-aggregate-end-line
-    end-line-requires
+    slice-aggregate-close-with
+    close-with-requires
     same-length
     same-length-2
     same-length-3
     returns
     returns-2
-    slice-aggregate-end-line-2
-    end-line-requires-2
+    slice-aggregate-close-with-2
+    close-with-requires-2
     same-length-4
     same-length-5
     same-length-6

@@ -6,15 +6,15 @@ use Rattle.tagged_line.proofs.Laying.{grown-more, laid-text, laid-name}
 use Rattle.tagged_line.proofs.piece.add_piece.Statement.{statement}
 use Rattle.tagged_line.proofs.piece.add_piece.Tie as tie
 
-add-text-requires : tie.Need-add-text-requires
-add-text-requires c κs = search needs
+add-text-piece-requires : tie.Need-add-text-piece-requires
+add-text-piece-requires c κs = search needs
 
 same-length : tie.Need-same-length
 same-length c = search needs
 
 returns : tie.Need-returns
 returns c =
-    let e = c .before .before .add-text .ensures in
+    let e = c .before .before .add-text-piece .ensures in
     (e .0, laid-text _ _ _ _ _ _ _ (c .before .before .before .before .if1 .taken) (e .1))
 
 add-fragment-requires : tie.Need-add-fragment-requires
@@ -31,4 +31,4 @@ returns-2 c =
 pub add-piece-spec : {M : Type 1} → statement M
 add-piece-spec =
     tie.close
-    (tie.spec add-text-requires same-length returns add-fragment-requires same-length-2 returns-2)
+    (tie.spec add-text-piece-requires same-length returns add-fragment-requires same-length-2 returns-2)

@@ -18,17 +18,17 @@ use Rattle.characters.proofs.Tables.{cols-in}
 use Rattle.fields.specs.Job.{Mode, normal, pre, preWrap}
 use Rattle.fields.specs.declared.job.Setup.{Setup}
 use Rattle.block.specs.Tag.{tag, isPre}
-use Rattle.block.specs.Flat.{Block, columns, pushChar, withWord, withWrapped, walk, keepBlank, addInk}
+use Rattle.block.specs.Flat.{Block, columns, pushChar, withWord, withWrapped, walk, keepBlank, addWordChar}
 use Rattle.block.specs.Flat as flat
-use Rattle.block.proofs.Neats.{NeatWalk, neat-wrapped, neat-ink}
+use Rattle.block.proofs.NonSpaces.{TrimsLeaveTextWalk, trims-wrapped, trims-word-char}
 use Rattle.lines.specs.Bridge.{modeNo, num}
 use Rattle.hard_wrap.specs.Hold.{setup}
 use Rattle.hard_wrap.specs.declared.line.Frame.{Frame}
-use Rattle.flush_word.specs.Keep.{Keeps, Small}
+use Rattle.flush_word.specs.Keep.{Keeps, CountsWithinUnits}
 use Rattle.flush_word.specs.declared.state.State.{State}
 use Rattle.flush_word.proofs.Flushing.{holds-lines}
-use Rattle.add_text.specs.Chars.{Fits, PushesWord, KeepsBlank}
-use Rattle.add_text.specs.Walks.{Ready, WalkedSmall, wrappedOn, CharIs, WalkKeeps, AddsKept, AddsInk}
+use Rattle.add_text.specs.Chars.{AmongUnits, PushesWord, KeepsBlank}
+use Rattle.add_text.specs.Walks.{Ready, WalkedSmall, wrappedOn, CharIs, WalkKeeps, AddsKept, AddsWordChar}
 use Rattle.add_text.specs.declared.text.Run.{Run}
 use Rattle.add_text.specs.declared.walk.Walk.{Walk}
 use Rattle.add_text.proofs.Breaking.{walkOf, tag-is}
@@ -47,7 +47,7 @@ width-some c n cols e f g = width-in c e f ∙ ap some (sym g)
 
 -- The columns of a character are among its bytes.
 pub fits-cols : {k : Columns} (frame : Frame) (w : Walk) (part : List ℕ) (c n cols : ℕ) → CharIs part c → Ready frame w (length part)
-    → k ≡ columnsOf c → k ≡ Cols n → cols ≡ n → Fits (w .st) (length part) cols
+    → k ≡ columnsOf c → k ≡ Cols n → cols ≡ n → AmongUnits (w .st) (length part) cols
 fits-cols frame w part c n cols h r e f g =
     let is = cols-in c (Cols n) (sym e ∙ f) in
     let b : length part ≡ length (utf8 c) = ap length (h .bytes) in
@@ -64,17 +64,17 @@ pub walked-still : (frame : Frame) (w : Walk) (m : ℕ) → Ready frame w m → 
 walked-still frame w m r = record { small = r .small; ann = r .ann; used = omega arith }
 
 -- The numbers after a character.
-pub walked-on : (frame : Frame) (r : State) (ann most : ℕ) → Small frame r × (r .used ≡ most) → ann < 256
+pub walked-on : (frame : Frame) (r : State) (ann most : ℕ) → CountsWithinUnits frame r × (r .used ≡ most) → ann < 256
     → WalkedSmall frame (walkOf r ann) most
 walked-on frame r ann most h a = record { small = h .0; ann = a; used = (let e = h .1 in omega arith) }
 
 -- the numbers say nothing of the flag
-small-wrapped : (frame : Frame) (st : State) → Small frame st → Small frame (wrappedOn st)
+small-wrapped : (frame : Frame) (st : State) → CountsWithinUnits frame st → CountsWithinUnits frame (wrappedOn st)
 small-wrapped frame st h =
     record { used = h .used; word = h .word; line = h .line; cols = h .cols; wide = h .wide; text = h .text; place = h .place; lines = h .lines }
 
 -- The numbers after a character at which Pre text wraps.
-pub walked-wrapped : (frame : Frame) (st r : State) (ann most : ℕ) → r ≡ wrappedOn st → Small frame st × (st .used ≡ most) → ann < 256
+pub walked-wrapped : (frame : Frame) (st r : State) (ann most : ℕ) → r ≡ wrappedOn st → CountsWithinUnits frame st × (st .used ≡ most) → ann < 256
     → WalkedSmall frame (walkOf r ann) most
 walked-wrapped frame st r ann most e h a = rw e (walked-on frame (wrappedOn st) ann most (small-wrapped frame st (h .0), h .1) a)
 
@@ -98,7 +98,7 @@ keeps-wrapped {b = b} h =
       count = h .count;
       pends = h .pends;
       wrapped = refl;
-      neat = neat-wrapped true b (h .neat);
+      trims = trims-wrapped true b (h .trims);
     }
 
 -- ---- a character of a word
@@ -124,65 +124,65 @@ abbrev reach : Walk → ℕ → ℕ
 reach w n = w .st .line .cols + w .st .blanks .count + (w .st .word .cols + n)
 
 module _ (s : Setup) (m : Mode) (wrap c n : ℕ) (v : flat.Walk) where
-  pub ink-on : (isPre m && ltb (s .width) (far v n)) ≡ false
-      → addInk s m wrap c (some n) v ≡ walk (withWord (pushChar (v .block .word) c (tag (v .ann) m)) (v .block)) (v .ann)
-  unfolding addInk
-  ink-on e = rw e
+  pub word-char-on : (isPre m && ltb (s .width) (far v n)) ≡ false
+      → addWordChar s m wrap c (some n) v ≡ walk (withWord (pushChar (v .block .word) c (tag (v .ann) m)) (v .block)) (v .ann)
+  unfolding addWordChar
+  word-char-on e = rw e
 
-  pub ink-wraps : isPre m ≡ true → s .width < far v n
-      → addInk s m wrap c (some n) v ≡ walk (withWord (pushChar (v .block .word) c (tag wrap m)) (withWrapped true (v .block))) wrap
-  unfolding addInk
-  ink-wraps p h = rw (p, lt-ltb (s .width) (far v n) h)
+  pub word-char-wraps : isPre m ≡ true → s .width < far v n
+      → addWordChar s m wrap c (some n) v ≡ walk (withWord (pushChar (v .block .word) c (tag wrap m)) (withWrapped true (v .block))) wrap
+  unfolding addWordChar
+  word-char-wraps p h = rw (p, lt-ltb (s .width) (far v n) h)
 
 module _ (frame : Frame) (run : Run) (w : Walk) (part : List ℕ) (c n t : ℕ) (wb wt : List ℕ) (st : State) (wb′ wt′ : List ℕ) where
   -- A character of a word goes after the others.
-  pub ink-adds : CharIs part c → w .ann < 256 → t ≡ w .ann + 65536 * run .mode → (reach w n ≤ frame .width) ⊎ (run .mode ≡ 1 → ⊥)
-      → PushesWord (w .st) part n t wb wt st wb′ wt′ → AddsInk frame run w part c (some n) wb wt (walkOf st (w .ann)) wb′ wt′
-  ink-adds is a ta stays f d₀ base v m main wrap lb lt out h ri e sp =
+  pub word-char-adds : CharIs part c → w .ann < 256 → t ≡ w .ann + 65536 * run .mode → (reach w n ≤ frame .width) ⊎ (run .mode ≡ 1 → ⊥)
+      → PushesWord (w .st) part n t wb wt st wb′ wt′ → AddsWordChar frame run w part c (some n) wb wt (walkOf st (w .ann)) wb′ wt′
+  word-char-adds is a ta stays f d₀ base v m main wrap lb lt out h ri e sp =
       let k = h .keeps in
       let ra = h .ann in
       let i = k .line .cols in
       let s = setup frame in
-      let q = ink-on s m wrap c n v
+      let q = word-char-on s m wrap c n v
       (⊎-elim (λ le. rw (le-ltb (frame .width) (far v n) (omega (arith, k .count, k .cols)), and-false (isPre m)))
       (λ no. rw (not-pre m (λ x. no (ri .mode ∙ x)))) stays) in
-      let neat : NeatWalk (walk (withWord (pushChar (v .block .word) c (tag (v .ann) m)) (v .block)) (v .ann))
-      = subst NeatWalk q (neat-ink s m wrap c (some n) v sp (k .neat)) in
+      let trims : TrimsLeaveTextWalk (walk (withWord (pushChar (v .block .word) c (tag (v .ann) m)) (v .block)) (v .ann))
+      = subst TrimsLeaveTextWalk q (trims-word-char s m wrap c (some n) v sp (k .trims)) in
       walk-same (sym q)
       (record {
-        keeps = f d₀ base (v .block) c (tag (v .ann) m) lb lt out k (is .scalar) (is .bytes) e (tag-is m ta ra (ri .mode)) (omega arith) (neat .word);
+        keeps = f d₀ base (v .block) c (tag (v .ann) m) lb lt out k (is .scalar) (is .bytes) e (tag-is m ta ra (ri .mode)) (omega arith) (trims .word);
         ann = ra;
       })
 
   -- Past the width, in Pre, a character takes the continued annotation.
-  pub ink-wrapped : (r : State) → r ≡ wrappedOn st → CharIs part c → run .wrap < 256 → t ≡ run .wrap + 65536 * 1 → run .mode ≡ 1 → frame .width < reach w n
-      → PushesWord (w .st) part n t wb wt st wb′ wt′ → AddsInk frame run w part c (some n) wb wt (walkOf r (run .wrap)) wb′ wt′
-  ink-wrapped r re is a ta one past f d₀ base v m main wrap lb lt out h ri e sp =
+  pub word-char-wrapped : (r : State) → r ≡ wrappedOn st → CharIs part c → run .wrap < 256 → t ≡ run .wrap + 65536 * 1 → run .mode ≡ 1 → frame .width < reach w n
+      → PushesWord (w .st) part n t wb wt st wb′ wt′ → AddsWordChar frame run w part c (some n) wb wt (walkOf r (run .wrap)) wb′ wt′
+  word-char-wrapped r re is a ta one past f d₀ base v m main wrap lb lt out h ri e sp =
       let k = h .keeps in
       let i = k .line .cols in
       let wi = ri .wrap-is in
       let s = setup frame in
-      let q = ink-wraps s m wrap c n v (is-pre m (sym (ri .mode) ∙ one)) (omega (arith, k .count, k .cols)) in
-      let neat : NeatWalk (walk (withWord (pushChar (v .block .word) c (tag wrap m)) (withWrapped true (v .block))) wrap)
-      = subst NeatWalk q (neat-ink s m wrap c (some n) v sp (k .neat)) in
+      let q = word-char-wraps s m wrap c n v (is-pre m (sym (ri .mode) ∙ one)) (omega (arith, k .count, k .cols)) in
+      let trims : TrimsLeaveTextWalk (walk (withWord (pushChar (v .block .word) c (tag wrap m)) (withWrapped true (v .block))) wrap)
+      = subst TrimsLeaveTextWalk q (trims-word-char s m wrap c (some n) v sp (k .trims)) in
       let x = f d₀ base (v .block) c (tag wrap m) lb lt out k (is .scalar) (is .bytes) e
-      (tag-is m ta wi (sym one ∙ ri .mode)) (omega arith) (neat .word) in
+      (tag-is m ta wi (sym one ∙ ri .mode)) (omega arith) (trims .word) in
       walk-same (sym q) (record { keeps = rw re (keeps-wrapped x); ann = wi })
 
 -- A character with a column count is one of so many columns.
-pub ink-some : (frame : Frame) (run : Run) (w : Walk) (part : List ℕ) (c n : ℕ) (wb wt : List ℕ) (r : Walk) (wb′ wt′ : List ℕ) → widthOf c ≡ some n
-    → AddsInk frame run w part c (some n) wb wt r wb′ wt′ → AddsInk frame run w part c (widthOf c) wb wt r wb′ wt′
-ink-some frame run w part c n wb wt r wb′ wt′ e f d₀ base v m main wrap lb lt out h ri same sp =
-    walk-same (ap (λ (o : Option ℕ). addInk (setup frame) m wrap c o v) (sym e)) (f d₀ base v m main wrap lb lt out h ri e sp)
+pub word-char-some : (frame : Frame) (run : Run) (w : Walk) (part : List ℕ) (c n : ℕ) (wb wt : List ℕ) (r : Walk) (wb′ wt′ : List ℕ) → widthOf c ≡ some n
+    → AddsWordChar frame run w part c (some n) wb wt r wb′ wt′ → AddsWordChar frame run w part c (widthOf c) wb wt r wb′ wt′
+word-char-some frame run w part c n wb wt r wb′ wt′ e f d₀ base v m main wrap lb lt out h ri same sp =
+    walk-same (ap (λ (o : Option ℕ). addWordChar (setup frame) m wrap c o v) (sym e)) (f d₀ base v m main wrap lb lt out h ri e sp)
 
-addInk-none : (s : Setup) (m : Mode) (wrap c : ℕ) (v : flat.Walk) → widthOf c ≡ none → v ≡ addInk s m wrap c (widthOf c) v
-unfolding addInk
-addInk-none s m wrap c v e = rw e
+addWordChar-none : (s : Setup) (m : Mode) (wrap c : ℕ) (v : flat.Walk) → widthOf c ≡ none → v ≡ addWordChar s m wrap c (widthOf c) v
+unfolding addWordChar
+addWordChar-none s m wrap c v e = rw e
 
 -- A character without a column count is dropped.
-pub ink-none : (frame : Frame) (run : Run) (w : Walk) (part : List ℕ) (c : ℕ) (wb wt : List ℕ) → widthOf c ≡ none
-    → AddsInk frame run w part c (widthOf c) wb wt w wb wt
-ink-none frame run w part c wb wt e d₀ base v m main wrap lb lt out h ri same sp = walk-same (addInk-none (setup frame) m wrap c v e) h
+pub word-char-none : (frame : Frame) (run : Run) (w : Walk) (part : List ℕ) (c : ℕ) (wb wt : List ℕ) → widthOf c ≡ none
+    → AddsWordChar frame run w part c (widthOf c) wb wt w wb wt
+word-char-none frame run w part c wb wt e d₀ base v m main wrap lb lt out h ri same sp = walk-same (addWordChar-none (setup frame) m wrap c v e) h
 
 -- ---- a blank that is kept
 

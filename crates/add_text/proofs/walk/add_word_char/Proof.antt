@@ -1,9 +1,9 @@
--- `add_text::walk::add_ink` meets its contract: a character with a column count is added, and any other is dropped.
+-- `add_text::walk::add_word_char` meets its contract: a character with a column count is added, and any other is dropped.
 -- Assumes nothing.
 use borrow.Author.Needs.{needs}
-use Rattle.add_text.proofs.Inking.{width-in, width-some, fits-cols, walked-still, ink-some, ink-none}
-use Rattle.add_text.proofs.walk.add_ink.Statement.{statement}
-use Rattle.add_text.proofs.walk.add_ink.Tie as tie
+use Rattle.add_text.proofs.WordChars.{width-in, width-some, fits-cols, walked-still, word-char-some, word-char-none}
+use Rattle.add_text.proofs.walk.add_word_char.Statement.{statement}
+use Rattle.add_text.proofs.walk.add_word_char.Tie as tie
 
 columns-of-requires : tie.Need-columns-of-requires
 columns-of-requires c κs = search needs
@@ -40,7 +40,7 @@ returns c =
     let a = c .before .before .before .before .before .before .before .before .before .before .before .before .before .before .before .args in
     let x = c .before .before .before .before .add-cols in (
       x .ensures .0,
-      ink-some (a .frame) (a .run) (a .w) (a .part .now) (a .code) _ (a .wb .now) (a .wt .now) (x .result) _ _
+      word-char-some (a .frame) (a .run) (a .w) (a .part .now) (a .code) _ (a .wb .now) (a .wt .now) (x .result) _ _
           (width-some (a .code) _ _ (c .before .before .before .before .before .before .before .before .before .before .before .columns-of .ensures) (c .before .before .before .before .before .before .before .before .before .k .given .1) (c .before .before .before .before .before .wide .ensures .0)) (x .ensures .1),
     )
 
@@ -49,7 +49,7 @@ returns-2 c =
     let start = c .before .before .before .before .before .before in
     let a = start .args in (
       walked-still (a .frame) (a .w) _ (start .pre .0 .0),
-      ink-none (a .frame) (a .run) (a .w) (a .part .now) (a .code) (a .wb .now) (a .wt .now) (width-in (a .code) (c .before .before .columns-of .ensures) (c .enum-told .given .1)),
+      word-char-none (a .frame) (a .run) (a .w) (a .part .now) (a .code) (a .wb .now) (a .wt .now) (width-in (a .code) (c .before .before .columns-of .ensures) (c .enum-told .given .1)),
     )
 
 returns-3 : tie.Need-returns-3
@@ -57,11 +57,11 @@ returns-3 c =
     let start = c .before .before .before .before .before .before in
     let a = start .args in (
       walked-still (a .frame) (a .w) _ (start .pre .0 .0),
-      ink-none (a .frame) (a .run) (a .w) (a .part .now) (a .code) (a .wb .now) (a .wt .now) (width-in (a .code) (c .before .before .columns-of .ensures) (c .enum-told2 .given .1)),
+      word-char-none (a .frame) (a .run) (a .w) (a .part .now) (a .code) (a .wb .now) (a .wt .now) (width-in (a .code) (c .before .before .columns-of .ensures) (c .enum-told2 .given .1)),
     )
 
-pub add-ink-spec : {M : Type 1} → statement M
-add-ink-spec =
+pub add-word-char-spec : {M : Type 1} → statement M
+add-word-char-spec =
     tie.close
     (tie.spec
     columns-of-requires

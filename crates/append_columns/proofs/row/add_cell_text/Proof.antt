@@ -1,8 +1,8 @@
--- `row::add_text` meets its contract: the columns that the pieces took are theirs, and spaces fill the cell. Assumes nothing.
+-- `row::add_cell_text` meets its contract: the columns that the pieces took are theirs, and spaces fill the cell. Assumes nothing.
 use Rattle.append_columns.proofs.RowLaws.{text-filled, text-full}
 use borrow.Author.Needs.{needs}
-use Rattle.append_columns.proofs.row.add_text.Statement.{statement}
-use Rattle.append_columns.proofs.row.add_text.Tie as tie
+use Rattle.append_columns.proofs.row.add_cell_text.Statement.{statement}
+use Rattle.append_columns.proofs.row.add_cell_text.Tie as tie
 
 add-pieces-requires : tie.Need-add-pieces-requires
 add-pieces-requires c κs = search needs
@@ -23,7 +23,7 @@ returns : tie.Need-returns
 returns c =
     let e = c .before .before .before .before .before .before .before .before .add-pieces .ensures in
     let f = c .before .before .push-ws .ensures in
-    (search needs, text-filled _ _ _ _ _ _ (e .1) (search needs) _ _ (c .before .before .before .before .before .before .before .before .before .before .before .before .args .setup) _ (f .1))
+    (search needs, text-filled _ _ _ _ _ _ (e .1) (search needs) _ _ (c .before .before .before .before .before .before .before .before .before .before .before .before .args .options) _ (f .1))
 
 same-length-2 : tie.Need-same-length-2
 same-length-2 c = search needs
@@ -31,10 +31,10 @@ same-length-2 c = search needs
 returns-2 : tie.Need-returns-2
 returns-2 c =
     let e = c .before .before .before .before .add-pieces .ensures in
-    (search needs, text-full _ _ _ _ _ _ (e .1) (search needs) (c .before .before .before .before .before .before .before .before .args .setup) _ (c .if1 .left))
+    (search needs, text-full _ _ _ _ _ _ (e .1) (search needs) (c .before .before .before .before .before .before .before .before .args .options) _ (c .if1 .left))
 
-pub add-text-spec : {M : Type 1} → statement M
-add-text-spec =
+pub add-cell-text-spec : {M : Type 1} → statement M
+add-cell-text-spec =
     tie.close
     (tie.spec
     add-pieces-requires

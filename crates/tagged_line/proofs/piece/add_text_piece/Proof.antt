@@ -1,4 +1,4 @@
--- `piece::add_text` meets its contract: what is too short adds nothing, and a text is pushed or put as it stands.
+-- `piece::add_text_piece` meets its contract: what is too short adds nothing, and a text is pushed or put as it stands.
 -- Assumes nothing.
 use mathlib.Core.Path.{refl}
 use native.Mathlib.Omega.{arith}
@@ -6,8 +6,8 @@ use borrow.Author.Needs.{needs}
 use denote.Ref.{now}
 use Rattle.fields.specs.Field.{field}
 use Rattle.tagged_line.proofs.Laying.{grown-none, grown-more, tail-size, laid-short, laid-joined, laid-apart}
-use Rattle.tagged_line.proofs.piece.add_text.Statement.{statement}
-use Rattle.tagged_line.proofs.piece.add_text.Tie as tie
+use Rattle.tagged_line.proofs.piece.add_text_piece.Statement.{statement}
+use Rattle.tagged_line.proofs.piece.add_text_piece.Tie as tie
 
 returns : tie.Need-returns
 returns c = (grown-none _ _ _ (c .before .before .before .pre .0), laid-short _ _ (now (c .before .before .before .args .content)) _ (c .if1 .taken))
@@ -68,8 +68,8 @@ returns-3 c =
     let n = tail-size s in
     (record { base = refl; piece = omega (arith, v .place); on = omega (arith, v .place); at = omega (arith, v .place); wider = omega arith; cols = omega (arith, n, w .0) }, laid-apart _ _ _ _ s _ _ (c .before .before .before .before .before .if2 .left) (w .1) v)
 
-pub add-text-spec : {M : Type 1} → statement M
-add-text-spec =
+pub add-text-piece-spec : {M : Type 1} → statement M
+add-text-piece-spec =
     tie.close
     (tie.spec
     returns

@@ -1,10 +1,10 @@
--- `line::close_line` meets its contract: the padded line is written behind the closed ones. Assumes nothing.
+-- `line::force_flush_line` meets its contract: the padded line is written behind the closed ones. Assumes nothing.
 use mathlib.Core.Path.{refl}
 use native.Mathlib.Omega.{arith}
 use borrow.Author.Needs.{needs}
 use Rattle.hard_wrap.proofs.Closing.{closes}
-use Rattle.hard_wrap.proofs.line.close_line.Statement.{statement}
-use Rattle.hard_wrap.proofs.line.close_line.Tie as tie
+use Rattle.hard_wrap.proofs.line.force_flush_line.Statement.{statement}
+use Rattle.hard_wrap.proofs.line.force_flush_line.Tie as tie
 
 pad-line-requires : tie.Need-pad-line-requires
 pad-line-requires c κs = search needs
@@ -40,8 +40,8 @@ returns c =
           closes (a .frame) (a .st) _ d₀ base (a .lb .now) (a .lt .now) (a .out .now) _ _ _ b (one .result) (pre .default) (one .ensures .1) (two .ensures .1) refl refl refl o,
     )
 
-pub close-line-spec : {M : Type 1} → statement M
-close-line-spec =
+pub force-flush-line-spec : {M : Type 1} → statement M
+force-flush-line-spec =
     tie.close
     (tie.spec
     pad-line-requires
