@@ -33,7 +33,7 @@ use Rattle.tagged_line.specs.Held.{Within, LineGrown, newLine, Held, Pushes, Pu
 use Rattle.tagged_line.specs.Pieces.{PiecesOf, AddsPieces}
 use Rattle.tagged_line.specs.declared.line.Line.{Line}
 use Rattle.tagged_line.proofs.Laying.{grown-more}
-use Rattle.add_line.specs.Emitted.{InBounds, OneLineMore, LineBegun, Emitted, AddsCellText as AddsLine}
+use Rattle.add_line.specs.Emitted.{InBounds, OneLineMore, LineBegun, Emitted, AddsTextLine}
 use Rattle.add_line.specs.declared.lines.Lines.{Lines}
 use Rattle.add_line.proofs.Emitting.{held-new}
 use Rattle.append_columns.specs.Cells.{bottomFrom, Sits, AllNear, ColumnIs, ColumnsAre, columnAt}
@@ -369,7 +369,7 @@ module _ (out₀ : List ℕ) (p : Lines) (s : RenderOptions) (cells ats ends sto
         record { base = w .base; on = w .on; piece = w .piece; at = omega (arith, w .at, w .few); cols = omega (arith, w .cols, w .few) }
 
     -- All cells.
-    pub row-end : (out′ : List ℕ) (r : Lines) → n ≤ k → AddsLine out p line s out′ r → AddsRowLine out₀ p s cells ats ends stops widths n out′ r
+    pub row-end : (out′ : List ℕ) (r : Lines) → n ≤ k → AddsTextLine out p line s out′ r → AddsRowLine out₀ p s cells ats ends stops widths n out′ r
     unfolding columnsFrom
     row-end out′ r h f cs c st ls emitted =
         let (l, held, e) = w .held cs c in
