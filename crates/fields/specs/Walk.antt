@@ -1,7 +1,7 @@
 -- The refusals of fields as they stand, as the code walks them: a field is judged by what its list holds (document 01, "What is refused").
 -- Assumes nothing: these are definitions.
-use Prim.Native.Nat.{ℕ}
 use mathlib.Core.Bool.{false}
+use Prim.Native.Nat.{ℕ}
 use lib.Dec.{eqb}
 use Rattle.characters.specs.If.{if_then_else_}
 use Rattle.fields.specs.Field.{Raw}
@@ -32,7 +32,7 @@ cellRefusal r = refusalOf (λ c. if eqb (c .width) 0 then 2 else unless (readabl
 unfoldable pub prefixRefusal : Raw → ℕ
 prefixRefusal r = refusalOf (λ p. unless (readableText false p)) (readPrefix r)
 
--- of a field in a list of that kind
+-- of a field, by the kind of its list
 abbrev pub refusalIn : Kind → Raw → ℕ
 refusalIn Job = fieldRefusal
 refusalIn Pieces = pieceRefusal

@@ -1,5 +1,5 @@
 // The one walk over a list of fields: each field is judged by what the list holds, and of the refusals the one that is given
-// first is answered (refusals 1, 2 and 3). A line holds pieces and a cell holds lines, and these are walked in turn.
+// first is answered (refusals 1, 2 and 3). A line holds pieces and a cell holds lines: these lists are walked in turn, three deep at most.
 ghost use mathlib.Core.Path.{_≡_};
 ghost use lib.ListN.{length};
 ghost use Rattle.fields.specs.Field.{whole, raws};
