@@ -94,7 +94,8 @@ fn wrap_line(
     }
 }
 
-// A piece: lines are closed while what is left of it does not fit, and the rest goes on the open one.
+// A piece: while what is left of it does not fit, its characters are walked up to the first that does not and the line is closed there;
+// the rest goes on the open line.
 pub fn wrap_piece(
     frame: Frame,
     st: Open,
@@ -123,12 +124,12 @@ pub fn wrap_piece(
             used += run.cols;
             idx += run.len;
             if idx >= rest.len() {
-                break 'walk rest.len();
+                break 'walk idx; // all of it fits
             }
             let g = glyph(&rest[idx..]);
             let next = idx + g.len;
             if left - used < g.cols {
-                break 'walk idx;
+                break 'walk idx; // the first that does not fit
             }
             used += g.cols;
             idx = next;

@@ -5,7 +5,7 @@ use mathlib.Core.Logic.{⊎-elim}
 use mathlib.Core.List.{List}
 use mathlib.Core.Path.{_≡_, refl, _∙_}
 use Prim.Native.Nat.{ℕ, _+_, _-_, _*_, _^_, _≤_, _<_, min}
-use native.Mathlib.Nat.{le-antisymm, le-of-lt, le-of-eq, le-trans, lt-of-le-of-lt, add-lt-add-of-lt-of-le}
+use native.Mathlib.Nat.{le-of-lt, le-of-eq, le-trans, lt-of-le-of-lt, add-lt-add-of-lt-of-le}
 use native.Mathlib.Omega.{arith}
 use borrow.Author.Tests.{ltb-true, ltb-false}
 use borrow.Author.Needs.{needs, fits-under}
@@ -217,13 +217,13 @@ stopped c cs v e =
     let used = w .used + r .cols in
     let p = past (run c) cs v e in
     ⊎-elim
-    (λ y. split-same (y .1 ∙ le-antisymm (y .0 .taken) (fits (run c) .0)) (going-end part cs i used l (y .0 .taken) p .0))
+    (λ y. split-same (y .1) (going-end part cs i used l (y .0 .taken) p .0))
     (λ y. split-same (y .6) (going-stop part cs i used (y .2 .result .len) (y .2 .result .cols) v (y .0 .left) (y .2 .ensures .1) l (y .5 .taken) p))
     (c .if2 .came)
 
 -- the place is inside
 place : (c : tie.Joined2 Inv-walk μ-walk Inv-loop μ-loop) → c .if2 .split ≤ length (rest (turn (run c)))
-place c = ⊎-elim (λ y. le-of-eq (y .1)) (λ y. le-trans (le-of-eq (y .6)) (fits (run c) .0)) (c .if2 .came)
+place c = ⊎-elim (λ y. le-trans (le-of-eq (y .1)) (fits (run c) .0)) (λ y. le-trans (le-of-eq (y .6)) (fits (run c) .0)) (c .if2 .came)
 
 wrap-line-requires : tie.Need-wrap-line-requires Inv-walk μ-walk Inv-loop μ-loop
 wrap-line-requires c κs =
