@@ -1,6 +1,6 @@
 /* Reads a job from standard input and prints its sheet to a terminal, one line of the sheet to a line. From the top folder:
- *   rt staticlib sheet_c && cc -Iinclude examples/show.c target/staticlib/libsheet_c.a -o target/show
- *   target/show < examples/shelf.job */
+ *   rt staticlib sheet_c && cc -Iinclude examples/print.c target/staticlib/libsheet_c.a -o target/print
+ *   target/print < examples/shelf.job */
 #include <stdio.h>
 #include "sheet.h"
 
