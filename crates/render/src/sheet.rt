@@ -1,5 +1,8 @@
-// The block's lines in the store. What a function here requires, its callers in this crate show.
+// The block's lines in the store, or what becomes of them where the block is too narrow. What a function here requires, its callers in
+// this crate show.
 use crate::body::add_fields;
+use fields::answer::Rendered;
+use fields::answer::refuse;
 use flush_word::state::Flushed;
 use flush_word::state::State;
 use flush_word::state::no_blanks;
@@ -11,6 +14,7 @@ use hard_wrap::line::Open;
 ghost use mathlib.Core.Path.{_≡_};
 ghost use Prim.Native.Nat.{_≤_};
 ghost use lib.ListN.{length};
+ghost use Rattle.fields.specs.Answer.{rendered, refused, give};
 ghost use Rattle.fields.specs.Field.{raws};
 ghost use Rattle.fields.specs.Job.{bodyUnits};
 ghost use Rattle.flush_word.specs.Keep.{CountsWithinUnits, BuffersLongEnough};
@@ -100,4 +104,11 @@ pub fn wrap_lines(frame: Frame, body: &[u8], out: &mut [u8]) -> Lines
     let mut wb = [0u8; 4096];
     let mut wt = [0u32; 4096];
     into_lines(frame, body, &mut lb, &mut lt, &mut wb, &mut wt, out)
+}
+
+// TooNarrow: refusal 5, and the lines that were closed before it are zeroed with the whole store.
+pub fn too_narrow(store: &mut [u8]) -> Rendered
+    ensures { λ r. ⌜ rendered r (now (store .exit)) ≡ give (refused 5) (now (store .entry)) ⌝ }
+{
+    refuse(5, store)
 }

@@ -59,14 +59,14 @@ finish-requires c κs = rw (c .before .before .lines .given .1) at (c .before .b
 enum-told : tie.Need-enum-told
 enum-told c = search needs
 
-refuse-requires-2 : tie.Need-refuse-requires-2
-refuse-requires-2 c κs = search needs
+too-narrow-requires : tie.Need-too-narrow-requires
+too-narrow-requires c κs = search needs
 
 enum-told-2 : tie.Need-enum-told-2
 enum-told-2 c = search needs
 
-refuse-requires-3 : tie.Need-refuse-requires-3
-refuse-requires-3 c κs = search needs
+refuse-requires-2 : tie.Need-refuse-requires-2
+refuse-requires-2 c κs = search needs
 
 same-length-2 : tie.Need-same-length-2
 same-length-2 c = search needs
@@ -81,14 +81,14 @@ same-length-3 c = search needs
 
 returns-3 : tie.Need-returns-3
 returns-3 c =
-    c .before .before .refuse2 .ensures ∙ answers-narrow _ _ (good (c .before .before .before .before .before .before .before .before .before .before .before .before)) _ _ _ (c .before .before .before .before .before .before .before .before .before .before .before .frame-of .ensures) (rw (c .before .before .before .before .enum-told .given .1) at (c .before .before .before .before .before .before .before .before .wrap-lines .ensures .1)) (c .before .before .before .before .before .before .before .store2 .given)
+    c .before .before .too-narrow .ensures ∙ answers-narrow _ _ (good (c .before .before .before .before .before .before .before .before .before .before .before .before)) _ _ _ (c .before .before .before .before .before .before .before .before .before .before .before .frame-of .ensures) (rw (c .before .before .before .before .enum-told .given .1) at (c .before .before .before .before .before .before .before .before .wrap-lines .ensures .1)) (c .before .before .before .before .before .before .before .store2 .given)
 
 same-length-4 : tie.Need-same-length-4
 same-length-4 c = search needs
 
 returns-4 : tie.Need-returns-4
 returns-4 c =
-    c .before .before .refuse3 .ensures ∙ answers-refused _ _ 1 (job-headless _ (sym (c .before .before .before .before .before .before .read-head .ensures) ∙ ap headIn (c .before .before .before .before .enum-told2 .given .1))) (λ e. omega arith)
+    c .before .before .refuse2 .ensures ∙ answers-refused _ _ 1 (job-headless _ (sym (c .before .before .before .before .before .before .read-head .ensures) ∙ ap headIn (c .before .before .before .before .enum-told2 .given .1))) (λ e. omega arith)
 
 pub render-spec : {M : Type 1} → statement M
 render-spec =
@@ -108,9 +108,9 @@ render-spec =
     enum-known-lines
     finish-requires
     enum-told
-    refuse-requires-2
+    too-narrow-requires
     enum-told-2
-    refuse-requires-3
+    refuse-requires-2
     same-length-2
     returns-2
     same-length-3
