@@ -1,0 +1,10 @@
+pub mod Sheet
+pub mod Places
+pub mod BorderSegHoriz
+pub mod BorderHoriz
+pub mod SubRenderer
+pub mod Answer
+pub mod Base
+pub mod ExtendsSheet
+pub mod Refusals
+pub mod Columns
