@@ -1,1 +1,2 @@
 pub mod HoleLaws
+pub mod BorderLaws
