@@ -41,7 +41,7 @@ pub fn piece_refusal(letter: u8, content: &[u8]) -> u8
 }
 
 // Whether each byte is a segment, 0 to 11.
-fn all_segments(s: &[u8]) -> bool
+pub fn all_segments(s: &[u8]) -> bool
     ensures { λ r. ⌜ r ≡ all isSegment (now (s .entry)) ⌝ }
 {
     let mut i: usize = 0;

@@ -1,10 +1,10 @@
 // The pieces of a line's content, read field by field and laid one after the other.
 use crate::line::Line;
 use crate::line::push_str;
-use crate::width::text_width;
 use fields::field::Field;
 use fields::field::field_at;
 use fields::store::put_field;
+use fields::width::text_width;
 ghost use mathlib.Core.Path.{_≡_};
 ghost use Prim.Native.Nat.{_+_, _*_, _^_, _≤_, _<_};
 ghost use lib.ListN.{length};

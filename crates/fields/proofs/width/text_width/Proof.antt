@@ -2,9 +2,9 @@
 -- Assumes nothing.
 use native.Mathlib.Omega.{arith}
 use borrow.Author.Needs.{needs}
-use Rattle.tagged_line.proofs.Laying.{run-width}
-use Rattle.tagged_line.proofs.width.text_width.Statement.{statement}
-use Rattle.tagged_line.proofs.width.text_width.Tie as tie
+use Rattle.fields.proofs.Counting.{run-width}
+use Rattle.fields.proofs.width.text_width.Statement.{statement}
+use Rattle.fields.proofs.width.text_width.Tie as tie
 
 ascii-run-requires : tie.Need-ascii-run-requires
 ascii-run-requires c κs = search needs

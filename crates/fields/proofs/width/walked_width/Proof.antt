@@ -9,9 +9,9 @@ use lib.ListN.{length, take, drop}
 use denote.Ref.{now}
 use Rattle.characters.specs.Utf8.{decodeOf}
 use Rattle.characters.specs.declared.utf8.Decoded.the-variants.{Char}
-use Rattle.tagged_line.proofs.Laying.{Counted, count-start, count-run, counted-size, count-on, count-bad, count-end}
-use Rattle.tagged_line.proofs.width.walked_width.Statement.{statement}
-use Rattle.tagged_line.proofs.width.walked_width.Tie as tie
+use Rattle.fields.proofs.Counting.{Counted, count-start, count-run, counted-size, count-on, count-bad, count-end}
+use Rattle.fields.proofs.width.walked_width.Statement.{statement}
+use Rattle.fields.proofs.width.walked_width.Tie as tie
 
 abbrev Inv-loop : tie.InvT-loop
 Inv-loop text at₀ cols₀ at cols = Counted text at cols
