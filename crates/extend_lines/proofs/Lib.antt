@@ -1,0 +1,3 @@
+pub mod Handing
+pub mod Emitting
+pub mod Copying
