@@ -1,5 +1,4 @@
 // Running positions of the cells of a row: a sum of widths without a bound, kept up to a cap that no border reaches.
-ghost use mathlib.Core.Path.{_≡_};
 ghost use Prim.Native.Nat.{_<_};
 ghost use Rattle.long_borders.specs.Keeps.{Advances};
 

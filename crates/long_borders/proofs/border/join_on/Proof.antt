@@ -1,6 +1,6 @@
-use Rattle.long_borders.proofs.Laws.{changed, changed-past, joined-at}
+-- `border::join_on` meets its contract: the border reaches the place, and the segment there is joined, if the buffer has it. Assumes nothing.
 use Rattle.borders.specs.BorderHoriz.{joinedOn}
-use denote.Ref.{now}
+use Rattle.long_borders.proofs.Laws.{changed, changed-past, joined-at}
 use borrow.Author.Needs.{needs}
 use Rattle.long_borders.proofs.border.join_on.Statement.{statement}
 use Rattle.long_borders.proofs.border.join_on.Tie as tie

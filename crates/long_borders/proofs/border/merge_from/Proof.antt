@@ -1,10 +1,11 @@
-use Rattle.long_borders.proofs.Laws.{SoFar, merge-starts, merge-joins, merge-passes, merge-ends}
-use lib.ListN.{length}
-use native.Mathlib.Omega.{arith}
-use Prim.Native.Nat.{_+_, _-_, _≤_, max}
-use mathlib.Core.Logic.{⊎-elim}
-use mathlib.Core.Path.{_≡_, sym, _∙_}
+-- `border::merge_from` meets its contract: merging what is left of the other border gives what merging the whole gives. Assumes nothing.
 use denote.Ref.{now}
+use mathlib.Core.Path.{_≡_, sym, _∙_}
+use mathlib.Core.Logic.{⊎-elim}
+use Prim.Native.Nat.{_+_, _-_, _≤_, max}
+use native.Mathlib.Omega.{arith}
+use lib.ListN.{length}
+use Rattle.long_borders.proofs.Laws.{SoFar, merge-starts, merge-joins, merge-passes, merge-ends}
 use borrow.Author.Needs.{needs}
 use Rattle.long_borders.proofs.border.merge_from.Statement.{statement}
 use Rattle.long_borders.proofs.border.merge_from.Tie as tie

@@ -1,8 +1,9 @@
-use Rattle.long_borders.proofs.Laws.{copied, copied-more}
-use lib.ListN.{length, take}
-use Prim.Native.Nat.{_-_, _≤_}
-use mathlib.Core.Path.{_≡_}
+-- `border::set_segs` meets its contract: its loop has copied the first `i` segments. Assumes nothing.
 use denote.Ref.{now}
+use mathlib.Core.Path.{_≡_}
+use Prim.Native.Nat.{_-_, _≤_}
+use lib.ListN.{length, take}
+use Rattle.long_borders.proofs.Laws.{copied, copied-more}
 use borrow.Author.Needs.{needs}
 use Rattle.long_borders.proofs.border.set_segs.Statement.{statement}
 use Rattle.long_borders.proofs.border.set_segs.Tie as tie

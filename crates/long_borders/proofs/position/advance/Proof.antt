@@ -1,3 +1,4 @@
+-- `position::advance` meets its contract: past the cap both positions lie past every border. Assumes nothing.
 use Rattle.long_borders.proofs.Laws.{near-plus, near-stays}
 use borrow.Author.Needs.{needs}
 use Rattle.long_borders.proofs.position.advance.Statement.{statement}
