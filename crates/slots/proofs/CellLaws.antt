@@ -27,6 +27,7 @@ record Parts (t : List ℕ) (k span : ℕ) (c : Cell) : Type 0 where
   room : k ≤ length t
   width-is : c .width ≡ getD t 0 0
   span-is : c .span ≡ span
+  spans : isSpan span ≡ true
   lines-are : readAll readLine (raws (drop k t)) ≡ some (c .lines)
 
 plain-parts : (t : List ℕ) → OnSome (Parts t 1 1) (readCellContent t)
@@ -35,16 +36,16 @@ plain-parts (w ∷ ls) = go (readAll readLine (raws ls)) refl
   where
     go : (o : Option (List RenderLine)) → readAll readLine (raws ls) ≡ o → OnSome (Parts (w ∷ ls) 1 1) (Option·map (cell w 1) o)
     go none e = tt
-    go (some l) e = record { room = omega arith; width-is = refl; span-is = refl; lines-are = e }
+    go (some l) e = record { room = omega arith; width-is = refl; span-is = refl; spans = refl; lines-are = e }
 
 span-parts : (t : List ℕ) → OnSome (Parts t 2 (getD t 1 0)) (readSpanContent t)
 span-parts [] = tt
 span-parts (w ∷ []) = tt
-span-parts (w ∷ n ∷ ls) = by-if (OnSome (Parts (w ∷ n ∷ ls) 2 n)) (isSpan n) (λ _. go (readAll readLine (raws ls)) refl) (λ _. tt)
+span-parts (w ∷ n ∷ ls) = by-if (OnSome (Parts (w ∷ n ∷ ls) 2 n)) (isSpan n) (λ i. go i (readAll readLine (raws ls)) refl) (λ _. tt)
   where
-    go : (o : Option (List RenderLine)) → readAll readLine (raws ls) ≡ o → OnSome (Parts (w ∷ n ∷ ls) 2 n) (Option·map (cell w n) o)
-    go none e = tt
-    go (some l) e = record { room = omega arith; width-is = refl; span-is = refl; lines-are = e }
+    go : isSpan n ≡ true → (o : Option (List RenderLine)) → readAll readLine (raws ls) ≡ o → OnSome (Parts (w ∷ n ∷ ls) 2 n) (Option·map (cell w n) o)
+    go i none e = tt
+    go i (some l) e = record { room = omega arith; width-is = refl; span-is = refl; spans = i; lines-are = e }
 
 c-parts : (l : ℕ) (t : List ℕ) → l ≡ 0x43 → OnSome (Parts t 1 1) (readCell (whole l t))
 unfolding readCell
@@ -74,6 +75,7 @@ there s l st nx k span cs one h i x p =
         are = x .are;
         width-is = p .width-is ∙ first;
         span-is = p .span-is;
+        spans = p .spans;
         lines = record { order = room; inside = i; reads = ap (λ (b : List ℕ). readAll readLine (raws b)) (sym rest) ∙ p .lines-are };
         goes = record { reads = x .later };
       },

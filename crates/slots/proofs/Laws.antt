@@ -2,6 +2,7 @@
 -- Assumes nothing.
 use mathlib.Core.Path.{_≡_, refl, sym, ap, ap₂, _∙_}
 use mathlib.Core.Option.{Option, none, some, Option·map}
+use mathlib.Core.Bool.{true}
 use mathlib.Core.Logic.{⊎-elim}
 use mathlib.Core.List.{List, [], _∷_}
 use Prim.Native.Nat.{ℕ, _+_, _-_, _*_, _≤_, _<_}
@@ -26,12 +27,13 @@ record Parts (t : List ℕ) (v : Hanging) : Type 0 where
   pos-is : v .pos ≡ getD t 0 0 * 256 + getD t 1 0
   width-is : v .width ≡ getD t 2 0
   rows-is : v .rows ≡ getD t 3 0
+  spans : isSpan (v .rows) ≡ true
   lines-are : readAll readLine (raws (drop 4 t)) ≡ some (v .lines)
 
-parts-of : (p q w r : ℕ) (ls : List ℕ) (o : Option (List RenderLine)) → readAll readLine (raws ls) ≡ o
+parts-of : (p q w r : ℕ) (ls : List ℕ) → isSpan r ≡ true → (o : Option (List RenderLine)) → readAll readLine (raws ls) ≡ o
     → OnSome (Parts (p ∷ q ∷ w ∷ r ∷ ls)) (Option·map (hanging (p * 256 + q) w r) o)
-parts-of p q w r ls none e = tt
-parts-of p q w r ls (some l) e = record { four = omega arith; pos-is = refl; width-is = refl; rows-is = refl; lines-are = e }
+parts-of p q w r ls i none e = tt
+parts-of p q w r ls i (some l) e = record { four = omega arith; pos-is = refl; width-is = refl; rows-is = refl; spans = i; lines-are = e }
 
 content-parts : (t : List ℕ) → OnSome (Parts t) (readHangingContent t)
 content-parts [] = tt
@@ -39,7 +41,7 @@ content-parts (p ∷ []) = tt
 content-parts (p ∷ q ∷ []) = tt
 content-parts (p ∷ q ∷ w ∷ []) = tt
 content-parts (p ∷ q ∷ w ∷ r ∷ ls) =
-    by-if (OnSome (Parts (p ∷ q ∷ w ∷ r ∷ ls))) (isSpan r) (λ _. parts-of p q w r ls (readAll readLine (raws ls)) refl) (λ _. tt)
+    by-if (OnSome (Parts (p ∷ q ∷ w ∷ r ∷ ls))) (isSpan r) (λ i. parts-of p q w r ls i (readAll readLine (raws ls)) refl) (λ _. tt)
 
 field-parts : (l : ℕ) (t : List ℕ) → OnSome (Parts t) (readHanging (whole l t))
 unfolding readHanging
@@ -68,6 +70,7 @@ hung-there s at l st nx vs h e g =
         pos-is = p .pos-is ∙ ap₂ (λ (a b : ℕ). a * 256 + b) (byte 0 (omega (arith, room)) ∙ ap (λ (m : ℕ). getD s m 0) zero-more) (byte 1 (omega (arith, room)));
         width-is = p .width-is ∙ byte 2 (omega (arith, room));
         rows-is = p .rows-is ∙ byte 3 (omega (arith, room));
+        spans = ap isSpan (sym (p .rows-is ∙ byte 3 (omega (arith, room)))) ∙ p .spans;
         lines = record { order = room; inside = f .inside; reads = ap (λ (b : List ℕ). readAll readLine (raws b)) (sym rest) ∙ p .lines-are };
         goes = record { reads = x .later };
       },
@@ -85,6 +88,7 @@ hung-end s at vs e g = read-none readHanging vs (rw (field-end s at e) at (g .re
 -- where a field that is found stands
 pub record Found (s : List ℕ) (at st nx : ℕ) : Type 0 where
   pub low : at ≤ length s
+  pub start-is : st ≡ at + 3
   pub order : st ≤ nx
   pub inside : nx ≤ length s
 
@@ -101,7 +105,7 @@ found-at s at l st nx e = ⊎-elim past there (lt-or-le (length s) at)
         absurd (never (ap (fieldAt at) (sym (drop-of-length-le s k)) ∙ e))
 
     there : at ≤ length s → Found s at st nx
-    there h = let f = field-is s at l st nx h e in record { low = h; order = f .order; inside = f .inside }
+    there h = let f = field-is s at l st nx h e in record { low = h; start-is = f .begins; order = f .order; inside = f .inside }
 
 -- A field that is too short stands not among V fields.
 pub hung-short : (s : List ℕ) (at l st nx : ℕ) (vs : List Hanging) → fieldAt at (drop at s) ≡ At l st nx → nx - st < 4 → HungFrom s at vs → vs ≡ []

@@ -2,9 +2,10 @@
 -- Assumes nothing: these are definitions.
 use mathlib.Core.Path.{_≡_}
 use mathlib.Core.List.{List, [], _∷_}
-use Prim.Native.Nat.{ℕ, _≤_, _<_}
+use mathlib.Core.Bool.{true}
+use Prim.Native.Nat.{ℕ, _+_, _≤_, _<_}
 use lib.ListN.{length}
-use Rattle.spans.specs.Sheet.{Cell}
+use Rattle.spans.specs.Sheet.{Cell, isSpan}
 use Rattle.spans.specs.Places.{LinesAt, CellsFrom}
 use Rattle.slots.specs.declared.cell.Laid.{Laid}
 use Rattle.slots.specs.declared.cell.Laid.the-variants.{Lies, NoCell}
@@ -16,13 +17,14 @@ pub record FirstCell (s : List ℕ) (width span start next : ℕ) (cs : List Cel
   pub are : cs ≡ one ∷ more
   pub width-is : one .width ≡ width
   pub span-is : one .span ≡ span
+  pub spans : isSpan span ≡ true
   pub lines : LinesAt s start next (one .lines)
   pub goes : CellsFrom s next more
 
 -- numbers that hold whatever the bytes
-abbrev pub CellIn : List ℕ → Laid → Type 0
-CellIn s (Lies width span start next) = (width < 256) × (span < 256) × (start ≤ next) × (next ≤ length s)
-CellIn s NoCell = Unit {0}
+abbrev pub CellIn : List ℕ → ℕ → Laid → Type 0
+CellIn s at (Lies width span start next) = (width < 256) × (span < 256) × (at < start) × (start ≤ next) × (next ≤ length s) × (next ≤ start + 65535)
+CellIn s at NoCell = Unit {0}
 
 -- `cell_at`
 abbrev pub FindsCell : List ℕ → ℕ → Laid → Type 0

@@ -2,9 +2,10 @@
 -- Assumes nothing: these are definitions.
 use mathlib.Core.Path.{_≡_}
 use mathlib.Core.List.{List, [], _∷_}
-use Prim.Native.Nat.{ℕ, _≤_, _<_}
+use mathlib.Core.Bool.{true}
+use Prim.Native.Nat.{ℕ, _+_, _≤_, _<_}
 use lib.ListN.{length}
-use Rattle.spans.specs.Sheet.{Hanging}
+use Rattle.spans.specs.Sheet.{Hanging, isSpan}
 use Rattle.spans.specs.Places.{LinesAt, HungFrom}
 use Rattle.slots.specs.declared.hung.Hung.{Hung}
 use Rattle.slots.specs.declared.hung.Hung.the-variants.{Hangs, NoMore}
@@ -17,13 +18,15 @@ pub record FirstHung (s : List ℕ) (pos width rows start next : ℕ) (vs : List
   pub pos-is : one .pos ≡ pos
   pub width-is : one .width ≡ width
   pub rows-is : one .rows ≡ rows
+  pub spans : isSpan rows ≡ true
   pub lines : LinesAt s start next (one .lines)
   pub goes : HungFrom s next more
 
 -- numbers that hold whatever the bytes
-abbrev pub HungIn : List ℕ → Hung → Type 0
-HungIn s (Hangs pos width rows start next) = (pos < 65536) × (width < 256) × (rows < 256) × (start ≤ next) × (next ≤ length s)
-HungIn s NoMore = Unit {0}
+abbrev pub HungIn : List ℕ → ℕ → Hung → Type 0
+HungIn s at (Hangs pos width rows start next) =
+    (pos < 65536) × (width < 256) × (rows < 256) × (at + 4 ≤ start) × (start ≤ next) × (next ≤ length s) × (next ≤ start + 65535)
+HungIn s at NoMore = Unit {0}
 
 -- `hung_at`
 abbrev pub FindsHung : List ℕ → ℕ → Hung → Type 0
