@@ -1,7 +1,8 @@
 //! Refusals 1 to 4: what an input is refused for before any work is done.
 
-use crate::format::{self, Cell, Job, Line, Part, Piece, Refusal};
+use crate::format::{self, Cell, Contents, Hole, Job, Line, Part, Piece, Refusal, Rules};
 use std::str;
+use unicode_width::UnicodeWidthStr;
 
 /// The most units of a job.
 pub const MOST_UNITS: usize = 4096;
@@ -25,6 +26,18 @@ fn is_text(bytes: &[u8]) -> bool {
 /// Text of an S field, a name or a prefix: no controls.
 fn is_plain(bytes: &[u8]) -> bool {
     on_the_list(bytes, false)
+}
+
+/// The columns of a piece that passes refusal 3; a name has none.
+pub fn piece_columns(piece: &Piece<&[u8]>) -> Option<usize> {
+    let (Piece::Text { text, .. } | Piece::Name(text)) = piece;
+    if !is_plain(text) {
+        return None;
+    }
+    match piece {
+        Piece::Text { text, .. } => str::from_utf8(text).ok().map(UnicodeWidthStr::width),
+        Piece::Name(_) => Some(0),
+    }
 }
 
 fn refuse(when: bool, refusal: Refusal) -> Result<(), Refusal> {
@@ -62,15 +75,25 @@ pub fn widths(cells: &[Cell<&[u8]>]) -> Result<(), Refusal> {
     refuse(cells.iter().any(|cell| cell.width == 0), Refusal::NoWidth)
 }
 
+/// Refusal 2 over a sheet's hanging cells.
+pub fn hanging_widths(sheet: &Contents<&[u8]>) -> Result<(), Refusal> {
+    let no_width = sheet.hanging.iter().any(|cell| cell.width == 0);
+    refuse(no_width, Refusal::NoWidth)
+}
+
+/// Refusal 3 over a sheet.
+pub fn sheet(sheet: &Contents<&[u8]>) -> Result<(), Refusal> {
+    lines(&sheet.lines)?;
+    sheet.hanging.iter().try_for_each(|cell| lines(&cell.lines))
+}
+
 /// Refusal 3 over lines.
-pub fn lines(lines: &[Line<&[u8]>]) -> Result<(), Refusal> {
-    let passes = |piece: &Piece<&[u8]>| match piece {
-        Piece::Text { text, .. } => is_plain(text),
-        Piece::Name(name) => is_plain(name),
-    };
+fn lines(lines: &[Line<&[u8]>]) -> Result<(), Refusal> {
+    let passes = |piece: &Piece<&[u8]>| piece_columns(piece).is_some();
+    let hole_passes = |hole: &Hole<&[u8]>| passes(&hole.piece);
     let line_passes = |line: &Line<&[u8]>| match line {
         Line::Text(pieces) => pieces.iter().all(passes),
-        Line::Border { .. } => true,
+        Line::Border { holes, .. } => holes.iter().all(hole_passes),
     };
     refuse(!lines.iter().all(line_passes), Refusal::StrangeCharacter)
 }
@@ -108,12 +131,17 @@ impl Input {
 
 /// The number that an input alone gets: 0, or its refusal.
 pub fn number(input: Input, bytes: &[u8]) -> u8 {
+    number_by(Rules::STORED, input, bytes)
+}
+
+/// The same by other rules.
+pub fn number_by(rules: Rules, input: Input, bytes: &[u8]) -> u8 {
     let outcome = match input {
         Input::Job => job(bytes).map(|_| ()),
-        Input::Sheet => format::read_sheet(bytes).and_then(|sheet| lines(&sheet)),
-        Input::Cells => {
-            format::read_cells(bytes).and_then(|cells| widths(&cells).and(cell_lines(&cells)))
-        }
+        Input::Sheet => format::read_sheet(bytes, rules)
+            .and_then(|found| hanging_widths(&found).and(sheet(&found))),
+        Input::Cells => format::read_cells(bytes, rules)
+            .and_then(|cells| widths(&cells).and(cell_lines(&cells))),
         Input::Prefixes => format::read_prefixes(bytes).and_then(|list| prefixes(&list)),
     };
     outcome.map_or_else(|refusal| refusal as u8, |()| 0)

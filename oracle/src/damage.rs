@@ -1,6 +1,6 @@
 //! Damage to good inputs.
 
-use crate::format::{Job, Line, Part, Piece};
+use crate::format::{Job, Line, Part, Piece, Rules};
 use crate::make;
 use crate::random::Rng;
 
@@ -42,10 +42,16 @@ const TELLING_BYTES: [u8; 20] = [
     0, 1, 2, 3, 4, 7, 9, 10, 11, 12, 0x1F, 0x7F, 0x80, 0xBF, 0xC0, 0xE0, 0xED, 0xF0, 0xF4, 0xFF,
 ];
 
-const LETTERS: &[u8; 12] = b"HLSFBCWTPwtX";
+/// The letters that damage writes.
+fn letters(rules: Rules) -> &'static [u8] {
+    match rules {
+        Rules::Base => b"HLSFBCWTPwtX",
+        Rules::Spans => b"HLSFBCGKVGKVPgX",
+    }
+}
 
 /// Damages bytes in one place.
-pub fn bytes(rng: &mut Rng, bytes: &mut Vec<u8>) {
+pub fn bytes(rng: &mut Rng, rules: Rules, bytes: &mut Vec<u8>) {
     if bytes.is_empty() {
         bytes.push(rng.byte());
         return;
@@ -57,12 +63,12 @@ pub fn bytes(rng: &mut Rng, bytes: &mut Vec<u8>) {
         2 => bytes.insert(at, rng.byte()),
         3 => drop(bytes.remove(at)),
         4 => bytes.truncate(at),
-        5 => bytes.push(rng.pick(LETTERS)),
+        5 => bytes.push(rng.pick(letters(rules))),
         6 => insert_all(bytes, at, rng.pick(&BAD_TEXTS)),
-        7 => letter(rng, bytes),
-        8 => length(rng, bytes),
-        9 => repeat_field(rng, bytes),
-        _ => content(rng, bytes),
+        7 => letter(rng, rules, bytes),
+        8 => length(rng, rules, bytes),
+        9 => repeat_field(rng, rules, bytes),
+        _ => content(rng, rules, bytes),
     }
 }
 
@@ -71,15 +77,15 @@ fn insert_all(bytes: &mut Vec<u8>, at: usize, more: &[u8]) {
 }
 
 /// Another letter.
-fn letter(rng: &mut Rng, bytes: &mut [u8]) {
-    if let Some((start, _)) = a_field(rng, bytes) {
-        bytes[start] = rng.pick(LETTERS);
+fn letter(rng: &mut Rng, rules: Rules, bytes: &mut [u8]) {
+    if let Some((start, _)) = a_field(rng, rules, bytes) {
+        bytes[start] = rng.pick(letters(rules));
     }
 }
 
 /// Another length: one more, one less, none, the greatest.
-fn length(rng: &mut Rng, bytes: &mut [u8]) {
-    if let Some((start, _)) = a_field(rng, bytes) {
+fn length(rng: &mut Rng, rules: Rules, bytes: &mut [u8]) {
+    if let Some((start, _)) = a_field(rng, rules, bytes) {
         let old = u16::from_be_bytes([bytes[start + 1], bytes[start + 2]]);
         let new = rng.pick(&[old.wrapping_add(1), old.wrapping_sub(1), 0, u16::MAX]);
         bytes[start + 1..start + 3].copy_from_slice(&new.to_be_bytes());
@@ -87,16 +93,18 @@ fn length(rng: &mut Rng, bytes: &mut [u8]) {
 }
 
 /// A field twice, or moved to another field's place.
-fn repeat_field(rng: &mut Rng, bytes: &mut Vec<u8>) {
-    if let (Some((start, end)), Some((other, _))) = (a_field(rng, bytes), a_field(rng, bytes)) {
+fn repeat_field(rng: &mut Rng, rules: Rules, bytes: &mut Vec<u8>) {
+    if let (Some((start, end)), Some((other, _))) =
+        (a_field(rng, rules, bytes), a_field(rng, rules, bytes))
+    {
         let field = bytes[start..end].to_vec();
         insert_all(bytes, other, &field);
     }
 }
 
 /// Another byte inside a field: the shape stays.
-fn content(rng: &mut Rng, bytes: &mut [u8]) {
-    if let Some((start, end)) = a_field(rng, bytes)
+fn content(rng: &mut Rng, rules: Rules, bytes: &mut [u8]) {
+    if let Some((start, end)) = a_field(rng, rules, bytes)
         && start + 3 < end
     {
         let at = if rng.once_in(2) {
@@ -110,26 +118,33 @@ fn content(rng: &mut Rng, bytes: &mut [u8]) {
 
 /// Another byte where the shape of a sheet, of cells or of prefixes does not see it: in
 /// a text, a name or a prefix, or a cell's width. Refusal 2 or 3, if any.
-pub fn value(rng: &mut Rng, bytes: &mut [u8]) {
-    let Some((start, end)) = a_field(rng, bytes) else {
+pub fn value(rng: &mut Rng, rules: Rules, bytes: &mut [u8]) {
+    let Some((start, end)) = a_field(rng, rules, bytes) else {
         return;
+    };
+    let width = match (rules, bytes[start]) {
+        (_, b'C') | (Rules::Spans, b'K') => Some(start + 3),
+        (Rules::Spans, b'V') => Some(start + 5),
+        _ => None,
     };
     let at = match bytes[start] {
         b'S' if start + 4 < end => rng.between(start + 4, end - 1),
         b'F' | b'P' if start + 3 < end => rng.between(start + 3, end - 1),
-        b'C' if start + 3 < end => start + 3,
-        _ => return,
+        _ => match width {
+            Some(at) if at < end => at,
+            _ => return,
+        },
     };
     bytes[at] = rng.pick(&TELLING_BYTES);
-    if bytes[start] == b'C' && rng.once_in(2) {
+    if width.is_some() && rng.once_in(2) {
         bytes[at] = 0;
     }
 }
 
 /// A field's start and end, inner fields included.
-fn a_field(rng: &mut Rng, bytes: &[u8]) -> Option<(usize, usize)> {
+fn a_field(rng: &mut Rng, rules: Rules, bytes: &[u8]) -> Option<(usize, usize)> {
     let mut found = Vec::new();
-    find_fields(bytes, 0, &mut found);
+    find_fields(rules, bytes, 0, &mut found);
     if found.is_empty() {
         None
     } else {
@@ -137,7 +152,7 @@ fn a_field(rng: &mut Rng, bytes: &[u8]) -> Option<(usize, usize)> {
     }
 }
 
-fn find_fields(mut bytes: &[u8], mut start: usize, found: &mut Vec<(usize, usize)>) {
+fn find_fields(rules: Rules, mut bytes: &[u8], mut start: usize, found: &mut Vec<(usize, usize)>) {
     while let [letter, high, low, rest @ ..] = bytes {
         let length = usize::from(u16::from_be_bytes([*high, *low]));
         let Some((content, after)) = rest.split_at_checked(length) else {
@@ -145,13 +160,37 @@ fn find_fields(mut bytes: &[u8], mut start: usize, found: &mut Vec<(usize, usize
         };
         let end = start + 3 + length;
         found.push((start, end));
-        match letter {
-            b'L' => find_fields(content, start + 3, found),
-            b'C' if length > 0 => find_fields(&content[1..], start + 4, found),
-            _ => (),
+        let head = match (rules, letter) {
+            (_, b'L') => 0,
+            (_, b'C') => 1,
+            (Rules::Spans, b'K') => 2,
+            (Rules::Spans, b'V') => 4,
+            _ => length,
+        };
+        if let Some(inner) = content.get(head..) {
+            find_fields(rules, inner, start + 3 + head, found);
+        }
+        if (rules, *letter) == (Rules::Spans, b'G') {
+            find_holes(content, start + 3, found);
         }
         bytes = after;
         start = end;
+    }
+}
+
+/// The S and F fields of a G field.
+fn find_holes(content: &[u8], start: usize, found: &mut Vec<(usize, usize)>) {
+    let Some(&[_, high, low]) = content.first_chunk() else {
+        return;
+    };
+    let mut at = 3 + usize::from(u16::from_be_bytes([high, low])) + 2;
+    while let Some(&[_, high, low]) = content.get(at..).and_then(<[u8]>::first_chunk) {
+        let end = at + 3 + usize::from(u16::from_be_bytes([high, low]));
+        if end > content.len() {
+            return;
+        }
+        found.push((start + at, start + end));
+        at = end + 2;
     }
 }
 

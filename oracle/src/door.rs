@@ -5,17 +5,19 @@
 #![warn(dead_code, unused)]
 
 use super::{
-    BorderHoriz, BorderSegHoriz, RenderLine, RenderOptions, SubRenderer, TaggedLine,
+    BorderHoriz, BorderSegHoriz, LineSet, RenderLine, RenderOptions, SubRenderer, TaggedLine,
     TaggedLineElement, TaggedString, TextDecorator, TooNarrow, WrappedBlock,
 };
 use crate::WhiteSpace;
 use crate::call::Sheet;
-use crate::format::{Cell, Job, Line, Part, Piece};
+use crate::format::{Cell, Contents, Hanging, Hole, Job, Line, Part, Piece};
 use crate::render::Renderer;
-use std::{iter, str};
+use std::{iter, mem, str};
 
 type Lent<'a> = Line<&'a [u8]>;
+type LentSheet<'a> = Contents<&'a [u8]>;
 type Owned = Line<String>;
+type OwnedSheet = Contents<String>;
 
 /// Runs a job's block.
 pub(crate) fn block(job: &Job<&[u8]>) -> Result<Vec<Owned>, TooNarrow> {
@@ -66,69 +68,86 @@ fn utf8(bytes: &[u8]) -> &str {
 /// Runs `append_subrender`; the last prefix repeats if asked.
 pub(crate) fn subrender(
     sheet: &Sheet,
-    old: &[Lent],
-    guest: &[Lent],
+    old: &LentSheet,
+    guest: &LentSheet,
     prefixes: &[&[u8]],
     repeat_last: bool,
-) -> Vec<Owned> {
-    let mut target = renderer(sheet, sheet.width, old);
+) -> OwnedSheet {
+    let mut target = hung(sheet, old);
     let given = prefixes.iter().map(|prefix| utf8(prefix));
     let again = prefixes.last().filter(|_| repeat_last);
     let repeated = again.into_iter().flat_map(|last| iter::repeat(utf8(last)));
-    let guest = renderer(sheet, sheet.width, guest);
+    let guest = hung(sheet, guest);
     let done = target.append_subrender(guest, given.chain(repeated));
-    lines_out(target, done)
+    sheet_out(target, done)
 }
 
-/// Runs `append_columns_with_borders`, every rowspan 1.
+/// Runs `append_columns_with_borders`; the rowspan of a C field is 1.
 pub(crate) fn columns(
     sheet: &Sheet,
-    old: &[Lent],
+    old: &LentSheet,
     cells: &[Cell<&[u8]>],
     collapse: bool,
-) -> Vec<Owned> {
+) -> OwnedSheet {
     Columns::new(sheet, old, cells, collapse).run()
 }
 
 /// A call of `append_columns_with_borders` whose inputs stand in renderers.
 pub(crate) struct Columns {
     target: SubRenderer<Numbers>,
-    cells: Vec<SubRenderer<Numbers>>,
+    cells: Vec<(SubRenderer<Numbers>, usize)>,
     collapse: bool,
 }
 
 impl Columns {
     pub(crate) fn new(
         sheet: &Sheet,
-        old: &[Lent],
+        old: &LentSheet,
         cells: &[Cell<&[u8]>],
         collapse: bool,
     ) -> Columns {
+        let rowspans = cells.iter().map(|cell| cell.span.map_or(1, usize::from));
         Columns {
-            target: renderer(sheet, sheet.width, old),
-            cells: renderers(sheet, cells).collect(),
+            target: hung(sheet, old),
+            cells: renderers(sheet, cells).zip(rowspans).collect(),
             collapse,
         }
     }
 
-    pub(crate) fn run(mut self) -> Vec<Owned> {
-        let cells = self.cells.into_iter().map(|cell| (cell, 1));
+    pub(crate) fn run(mut self) -> OwnedSheet {
+        let cells = self.cells;
         let done = self.target.append_columns_with_borders(cells, self.collapse);
-        lines_out(self.target, done)
+        sheet_out(self.target, done)
     }
 }
 
 /// Runs `append_vert_row`.
-pub(crate) fn vert_row(sheet: &Sheet, old: &[Lent], cells: &[Cell<&[u8]>]) -> Vec<Owned> {
-    let mut target = renderer(sheet, sheet.width, old);
+pub(crate) fn vert_row(sheet: &Sheet, old: &LentSheet, cells: &[Cell<&[u8]>]) -> OwnedSheet {
+    let mut target = hung(sheet, old);
     let done = target.append_vert_row(renderers(sheet, cells));
-    lines_out(target, done)
+    sheet_out(target, done)
 }
 
 fn renderers(sheet: &Sheet, cells: &[Cell<&[u8]>]) -> impl Iterator<Item = SubRenderer<Numbers>> {
     cells
         .iter()
         .map(|cell| renderer(sheet, cell.width, &cell.lines))
+}
+
+/// A renderer that holds a sheet, hanging cells too.
+fn hung(sheet: &Sheet, contents: &LentSheet) -> SubRenderer<Numbers> {
+    let mut renderer = renderer(sheet, sheet.width, &contents.lines);
+    renderer.overhang_cells = contents.hanging.iter().map(hanging_in).collect();
+    renderer
+}
+
+fn hanging_in(cell: &Hanging<&[u8]>) -> LineSet<u8> {
+    LineSet {
+        pos: cell.position,
+        width: usize::from(cell.width),
+        rowspan: usize::from(cell.rows),
+        lines: cell.lines.iter().map(line_in).collect(),
+    }
 }
 
 /// A renderer that holds these lines; its tag is the call's annotation.
@@ -152,12 +171,20 @@ fn line_in(line: &Lent) -> RenderLine<Vec<u8>> {
             let len = v.iter().map(TaggedLineElement::width).sum();
             RenderLine::Text(TaggedLine { v, len })
         }
-        Line::Border { tag, segments } => RenderLine::Line(BorderHoriz {
+        Line::Border {
+            tag,
+            segments,
+            holes,
+        } => RenderLine::Line(BorderHoriz {
             segments: segments.iter().map(|s| SEGMENTS[usize::from(*s)]).collect(),
             tag: vec![*tag],
-            holes: Vec::new(),
+            holes: holes.iter().map(hole_in).collect(),
         }),
     }
+}
+
+fn hole_in(hole: &Hole<&[u8]>) -> (usize, TaggedLineElement<Vec<u8>>) {
+    (hole.place, piece_in(&hole.piece))
 }
 
 fn piece_in(piece: &Piece<&[u8]>) -> TaggedLineElement<Vec<u8>> {
@@ -170,34 +197,55 @@ fn piece_in(piece: &Piece<&[u8]>) -> TaggedLineElement<Vec<u8>> {
     }
 }
 
-fn lines_out(target: SubRenderer<Numbers>, done: Result<(), TooNarrow>) -> Vec<Owned> {
+fn sheet_out(mut target: SubRenderer<Numbers>, done: Result<(), TooNarrow>) -> OwnedSheet {
+    let hanging = mem::take(&mut target.overhang_cells);
     let lines = done.and_then(|()| target.into_lines());
     let lines = lines.expect("a row call wraps nothing, so it is never TooNarrow");
-    lines.into_iter().map(line_out).collect()
+    Contents {
+        lines: lines.into_iter().map(line_out).collect(),
+        hanging: hanging.into_iter().map(hanging_out).collect(),
+    }
+}
+
+fn hanging_out(cell: LineSet<u8>) -> Hanging<String> {
+    let byte = |number| u8::try_from(number).expect("a filling cell never hangs on");
+    Hanging {
+        position: cell.pos,
+        width: byte(cell.width),
+        rows: byte(cell.rowspan),
+        lines: cell.lines.into_iter().map(line_out).collect(),
+    }
 }
 
 fn line_out(line: RenderLine<Vec<u8>>) -> Owned {
     match line {
         RenderLine::Text(text) => text_out(text, one_tag),
-        RenderLine::Line(border) => {
-            assert!(border.holes.is_empty(), "a border with holes");
-            Line::Border {
-                tag: one_tag(border.tag),
-                segments: border.segments.iter().map(|s| *s as u8).collect(),
-            }
-        }
+        RenderLine::Line(border) => Line::Border {
+            tag: one_tag(border.tag),
+            segments: border.segments.iter().map(|s| *s as u8).collect(),
+            holes: border.holes.into_iter().map(hole_out).collect(),
+        },
     }
 }
 
+fn hole_out((place, element): (usize, TaggedLineElement<Vec<u8>>)) -> Hole<String> {
+    let piece = piece_out(element, one_tag);
+    Hole { place, piece }
+}
+
 fn text_out<T>(line: TaggedLine<T>, tag: impl Fn(T) -> u8) -> Owned {
-    let piece_out = |element| match element {
+    let pieces = line.into_iter().map(|element| piece_out(element, &tag));
+    Line::Text(pieces.collect())
+}
+
+fn piece_out<T>(element: TaggedLineElement<T>, tag: impl Fn(T) -> u8) -> Piece<String> {
+    match element {
         TaggedLineElement::Str(piece) => Piece::Text {
             tag: tag(piece.tag),
             text: piece.s,
         },
         TaggedLineElement::FragmentStart(name) => Piece::Name(name),
-    };
-    Line::Text(line.into_iter().map(piece_out).collect())
+    }
 }
 
 fn one_tag(tags: Vec<u8>) -> u8 {

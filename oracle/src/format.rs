@@ -1,7 +1,9 @@
 //! The house format: fields, and what is built from them. Reading here is
 //! refusal 1 alone; the other refusals of an input are in `checks`.
 
-/// Document 01's refusals.
+use crate::checks;
+
+/// Document 01's refusals, and 10 of request 2.1.
 #[derive(Clone, Copy, Debug, PartialEq, Eq)]
 pub enum Refusal {
     CrookedRecord = 1,
@@ -13,6 +15,19 @@ pub enum Refusal {
     LongLine = 7,
     StoreShort = 8,
     LongSheet = 9,
+    OverhangMisfit = 10,
+}
+
+/// Whose letters are read: document 01's alone, or K, G and V of request 2.1 too.
+#[derive(Clone, Copy, Debug, PartialEq, Eq)]
+pub enum Rules {
+    Base,
+    Spans,
+}
+
+impl Rules {
+    /// The rules of whatever does not choose: of the sets and stored files of document 01.
+    pub const STORED: Rules = Rules::Base;
 }
 
 use Refusal::CrookedRecord;
@@ -24,6 +39,9 @@ pub const MOST: usize = 65_535;
 
 /// The most cells in a call.
 pub const MOST_CELLS: usize = 16;
+
+/// The most rows that a cell spans.
+pub const MOST_ROWS: u8 = 16;
 
 /// The highest segment number.
 const LAST_SEGMENT: u8 = 11;
@@ -39,14 +57,114 @@ pub enum Piece<T> {
 #[derive(Clone, Debug, PartialEq, Eq)]
 pub enum Line<T> {
     Text(Vec<Piece<T>>),
-    Border { tag: u8, segments: Vec<u8> },
+    /// A B field, or with holes a G field.
+    Border {
+        tag: u8,
+        segments: Vec<u8>,
+        holes: Vec<Hole<T>>,
+    },
+}
+
+/// A hole in a border: what stands over its segments from a place on.
+#[derive(Clone, Debug, PartialEq, Eq)]
+pub struct Hole<T> {
+    pub place: usize,
+    pub piece: Piece<T>,
 }
 
 /// A cell of a row.
 #[derive(Clone, Debug, PartialEq, Eq)]
 pub struct Cell<T> {
     pub width: u8,
+    /// The rows of a K field; a C field has none.
+    pub span: Option<u8>,
     pub lines: Vec<Line<T>>,
+}
+
+/// A cell that hangs on under the last row: a V field.
+#[derive(Clone, Debug, PartialEq, Eq)]
+pub struct Hanging<T> {
+    pub position: usize,
+    pub width: u8,
+    pub rows: u8,
+    pub lines: Vec<Line<T>>,
+}
+
+/// What a sheet holds: its lines, then the cells that hang on.
+#[derive(Clone, Debug, PartialEq, Eq)]
+pub struct Contents<T> {
+    pub lines: Vec<Line<T>>,
+    pub hanging: Vec<Hanging<T>>,
+}
+
+impl<T> Contents<T> {
+    /// The same sheet with its texts and names given otherwise.
+    pub fn map<U>(self, give: impl Fn(T) -> U) -> Contents<U> {
+        let hung = |cell: Hanging<T>| Hanging {
+            position: cell.position,
+            width: cell.width,
+            rows: cell.rows,
+            lines: map_lines(cell.lines, &give),
+        };
+        Contents {
+            lines: map_lines(self.lines, &give),
+            hanging: self.hanging.into_iter().map(hung).collect(),
+        }
+    }
+}
+
+fn map_lines<T, U>(lines: Vec<Line<T>>, give: &impl Fn(T) -> U) -> Vec<Line<U>> {
+    lines.into_iter().map(|line| line.map(give)).collect()
+}
+
+impl<T> Line<T> {
+    fn map<U>(self, give: &impl Fn(T) -> U) -> Line<U> {
+        match self {
+            Line::Text(pieces) => {
+                Line::Text(pieces.into_iter().map(|piece| piece.map(give)).collect())
+            }
+            Line::Border {
+                tag,
+                segments,
+                holes,
+            } => Line::Border {
+                tag,
+                segments,
+                holes: holes.into_iter().map(|hole| hole.map(give)).collect(),
+            },
+        }
+    }
+}
+
+impl<T> Hole<T> {
+    fn map<U>(self, give: &impl Fn(T) -> U) -> Hole<U> {
+        Hole {
+            place: self.place,
+            piece: self.piece.map(give),
+        }
+    }
+}
+
+impl<T> Piece<T> {
+    fn map<U>(self, give: &impl Fn(T) -> U) -> Piece<U> {
+        match self {
+            Piece::Text { tag, text } => Piece::Text {
+                tag,
+                text: give(text),
+            },
+            Piece::Name(name) => Piece::Name(give(name)),
+        }
+    }
+}
+
+impl<T> From<Vec<Line<T>>> for Contents<T> {
+    /// A sheet on which nothing hangs.
+    fn from(lines: Vec<Line<T>>) -> Contents<T> {
+        Contents {
+            lines,
+            hanging: Vec::new(),
+        }
+    }
 }
 
 /// A field of a job after its W.
@@ -110,23 +228,27 @@ struct Field<'a> {
     content: &'a [u8],
 }
 
+/// Takes the field at the front of bytes.
+fn take_field<'a>(bytes: &mut &'a [u8]) -> Read<Field<'a>> {
+    let [letter, high, low, rest @ ..] = bytes else {
+        return Err(CrookedRecord);
+    };
+    let length = usize::from(u16::from_be_bytes([*high, *low]));
+    let (content, after) = rest.split_at_checked(length).ok_or(CrookedRecord)?;
+    *bytes = after;
+    Ok(Field {
+        letter: *letter,
+        content,
+    })
+}
+
 /// Splits bytes into fields, without a byte left over.
 fn fields(mut bytes: &[u8]) -> Read<Vec<Field<'_>>> {
     let mut found = Vec::new();
-    while let [letter, high, low, rest @ ..] = bytes {
-        let length = usize::from(u16::from_be_bytes([*high, *low]));
-        let (content, after) = rest.split_at_checked(length).ok_or(CrookedRecord)?;
-        found.push(Field {
-            letter: *letter,
-            content,
-        });
-        bytes = after;
+    while !bytes.is_empty() {
+        found.push(take_field(&mut bytes)?);
     }
-    if bytes.is_empty() {
-        Ok(found)
-    } else {
-        Err(CrookedRecord)
-    }
+    Ok(found)
 }
 
 /// Reads a job: one W, then T and F fields in any number.
@@ -163,8 +285,8 @@ fn read_part<'a>(field: &Field<'a>) -> Read<Part<&'a [u8]>> {
     }
 }
 
-/// Reads a sheet: one H, then exactly that many L and B fields.
-pub fn read_sheet(bytes: &[u8]) -> Read<Vec<Line<&[u8]>>> {
+/// Reads a sheet: one H, then exactly that many L, B and G fields, then V fields.
+pub fn read_sheet(bytes: &[u8], rules: Rules) -> Read<Contents<&[u8]>> {
     let fields = fields(bytes)?;
     let Some((head, rest)) = fields.split_first() else {
         return Err(CrookedRecord);
@@ -172,19 +294,34 @@ pub fn read_sheet(bytes: &[u8]) -> Read<Vec<Line<&[u8]>>> {
     let (b'H', &[high, low]) = (head.letter, head.content) else {
         return Err(CrookedRecord);
     };
-    let lines = read_lines(rest)?;
-    if lines.len() == usize::from(u16::from_be_bytes([high, low])) {
-        Ok(lines)
-    } else {
-        Err(CrookedRecord)
+    let count = usize::from(u16::from_be_bytes([high, low]));
+    let (lines, hanging) = rest.split_at_checked(count).ok_or(CrookedRecord)?;
+    let hanging = hanging.iter().map(|field| read_hanging(field, rules));
+    Ok(Contents {
+        lines: read_lines(lines, rules)?,
+        hanging: hanging.collect::<Read<_>>()?,
+    })
+}
+
+fn read_hanging<'a>(field: &Field<'a>, rules: Rules) -> Read<Hanging<&'a [u8]>> {
+    match (rules, field.letter, field.content) {
+        (Rules::Spans, b'V', &[high, low, width, rows @ 1..=MOST_ROWS, ref lines @ ..]) => {
+            Ok(Hanging {
+                position: usize::from(u16::from_be_bytes([high, low])),
+                width,
+                rows,
+                lines: read_lines(&fields(lines)?, rules)?,
+            })
+        }
+        _ => Err(CrookedRecord),
     }
 }
 
-fn read_lines<'a>(fields: &[Field<'a>]) -> Read<Vec<Line<&'a [u8]>>> {
-    fields.iter().map(read_line).collect()
+fn read_lines<'a>(fields: &[Field<'a>], rules: Rules) -> Read<Vec<Line<&'a [u8]>>> {
+    fields.iter().map(|field| read_line(field, rules)).collect()
 }
 
-fn read_line<'a>(field: &Field<'a>) -> Read<Line<&'a [u8]>> {
+fn read_line<'a>(field: &Field<'a>, rules: Rules) -> Read<Line<&'a [u8]>> {
     match (field.letter, field.content) {
         (b'L', content) => {
             let pieces = fields(content)?;
@@ -192,13 +329,52 @@ fn read_line<'a>(field: &Field<'a>) -> Read<Line<&'a [u8]>> {
                 pieces.iter().map(read_piece).collect::<Read<_>>()?,
             ))
         }
-        (b'B', &[tag, ref segments @ ..]) if segments.iter().all(|s| *s <= LAST_SEGMENT) => {
-            Ok(Line::Border {
-                tag,
-                segments: segments.to_vec(),
-            })
+        (b'B', &[tag, ref segments @ ..]) if are_segments(segments) => Ok(Line::Border {
+            tag,
+            segments: segments.to_vec(),
+            holes: Vec::new(),
+        }),
+        (b'G', &[tag, high, low, ref rest @ ..]) if rules == Rules::Spans => {
+            let count = usize::from(u16::from_be_bytes([high, low]));
+            read_holed(tag, count, rest)
         }
         _ => Err(CrookedRecord),
+    }
+}
+
+fn are_segments(bytes: &[u8]) -> bool {
+    bytes.iter().all(|byte| *byte <= LAST_SEGMENT)
+}
+
+/// Reads a G field after its count: that many segments, then one hole or more.
+fn read_holed(tag: u8, count: usize, bytes: &[u8]) -> Read<Line<&[u8]>> {
+    let (segments, mut rest) = bytes.split_at_checked(count).ok_or(CrookedRecord)?;
+    if !are_segments(segments) || rest.is_empty() {
+        return Err(CrookedRecord);
+    }
+    let mut holes = Vec::new();
+    while !rest.is_empty() {
+        holes.push(read_hole(&mut rest, count)?);
+    }
+    Ok(Line::Border {
+        tag,
+        segments: segments.to_vec(),
+        holes,
+    })
+}
+
+/// Takes a hole from the front of bytes. One that passes refusal 3 ends within the
+/// segments; one that does not is not measured.
+fn read_hole<'a>(bytes: &mut &'a [u8], segments: usize) -> Read<Hole<&'a [u8]>> {
+    let [high, low, rest @ ..] = bytes else {
+        return Err(CrookedRecord);
+    };
+    let place = usize::from(u16::from_be_bytes([*high, *low]));
+    *bytes = rest;
+    let piece = read_piece(&take_field(bytes)?)?;
+    match checks::piece_columns(&piece) {
+        Some(columns) if place + columns > segments => Err(CrookedRecord),
+        _ => Ok(Hole { place, piece }),
     }
 }
 
@@ -210,22 +386,37 @@ fn read_piece<'a>(field: &Field<'a>) -> Read<Piece<&'a [u8]>> {
     }
 }
 
-/// Reads a list of cells: at most 16 C fields.
-pub fn read_cells(bytes: &[u8]) -> Read<Vec<Cell<&[u8]>>> {
+/// Reads a list of cells: at most 16 C and K fields.
+pub fn read_cells(bytes: &[u8], rules: Rules) -> Read<Vec<Cell<&[u8]>>> {
     let fields = fields(bytes)?;
     if fields.len() > MOST_CELLS {
         return Err(CrookedRecord);
     }
-    fields.iter().map(read_cell).collect()
+    fields.iter().map(|field| read_cell(field, rules)).collect()
 }
 
-fn read_cell<'a>(field: &Field<'a>) -> Read<Cell<&'a [u8]>> {
-    let (b'C', &[width, ref lines @ ..]) = (field.letter, field.content) else {
-        return Err(CrookedRecord);
+/// Reads a list of cells of which none spans rows: at most 16 C fields.
+pub fn read_plain_cells(bytes: &[u8], rules: Rules) -> Read<Vec<Cell<&[u8]>>> {
+    let cells = read_cells(bytes, rules)?;
+    if cells.iter().all(|cell| cell.span.is_none()) {
+        Ok(cells)
+    } else {
+        Err(CrookedRecord)
+    }
+}
+
+fn read_cell<'a>(field: &Field<'a>, rules: Rules) -> Read<Cell<&'a [u8]>> {
+    let (width, span, lines) = match (field.letter, field.content) {
+        (b'C', &[width, ref lines @ ..]) => (width, None, lines),
+        (b'K', &[width, span @ 1..=MOST_ROWS, ref lines @ ..]) if rules == Rules::Spans => {
+            (width, Some(span), lines)
+        }
+        _ => return Err(CrookedRecord),
     };
     Ok(Cell {
         width,
-        lines: read_lines(&fields(lines)?)?,
+        span,
+        lines: read_lines(&fields(lines)?, rules)?,
     })
 }
 
@@ -248,9 +439,22 @@ pub fn push_field(out: &mut Vec<u8>, letter: u8, content: &[u8]) {
     out.extend(content);
 }
 
-/// The bytes of a sheet, or refusal 7 or 9.
+/// The bytes of a sheet on which nothing hangs, or refusal 7 or 9.
 pub fn write_sheet<T: AsRef<[u8]>>(lines: &[Line<T>]) -> Result<Vec<u8>, Refusal> {
-    if lines.iter().any(|line| content_length(line) > MOST) {
+    write_hung(lines, &[])
+}
+
+/// The bytes of a sheet, or refusal 7 or 9.
+pub fn write_contents<T: AsRef<[u8]>>(sheet: &Contents<T>) -> Result<Vec<u8>, Refusal> {
+    write_hung(&sheet.lines, &sheet.hanging)
+}
+
+fn write_hung<T: AsRef<[u8]>>(
+    lines: &[Line<T>],
+    hanging: &[Hanging<T>],
+) -> Result<Vec<u8>, Refusal> {
+    let long_line = lines.iter().any(|line| content_length(line) > MOST);
+    if long_line || hanging.iter().any(is_long) {
         return Err(Refusal::LongLine);
     }
     let count = u16::try_from(lines.len()).map_err(|_| Refusal::LongSheet)?;
@@ -259,18 +463,40 @@ pub fn write_sheet<T: AsRef<[u8]>>(lines: &[Line<T>]) -> Result<Vec<u8>, Refusal
     for line in lines {
         push_line(&mut out, line);
     }
+    for cell in hanging {
+        push_hanging(&mut out, cell);
+    }
     Ok(out)
 }
 
-/// The length of a line's L or B content.
+/// Is a position too high or a V content too long?
+fn is_long<T: AsRef<[u8]>>(cell: &Hanging<T>) -> bool {
+    let field_length = |line: &Line<T>| 3 + content_length(line);
+    let length = 4 + cell.lines.iter().map(field_length).sum::<usize>();
+    cell.position > MOST || length > MOST
+}
+
+/// The length of a line's L, B or G content.
 fn content_length<T: AsRef<[u8]>>(line: &Line<T>) -> usize {
-    let piece_length = |piece: &Piece<T>| match piece {
-        Piece::Text { text, .. } => 3 + 1 + text.as_ref().len(),
-        Piece::Name(name) => 3 + name.as_ref().len(),
-    };
     match line {
         Line::Text(pieces) => pieces.iter().map(piece_length).sum(),
-        Line::Border { segments, .. } => 1 + segments.len(),
+        Line::Border {
+            segments, holes, ..
+        } if holes.is_empty() => 1 + segments.len(),
+        Line::Border {
+            segments, holes, ..
+        } => {
+            let hole_length = |hole: &Hole<T>| 2 + piece_length(&hole.piece);
+            3 + segments.len() + holes.iter().map(hole_length).sum::<usize>()
+        }
+    }
+}
+
+/// The length of a piece's S or F field.
+fn piece_length<T: AsRef<[u8]>>(piece: &Piece<T>) -> usize {
+    match piece {
+        Piece::Text { text, .. } => 3 + 1 + text.as_ref().len(),
+        Piece::Name(name) => 3 + name.as_ref().len(),
     }
 }
 
@@ -284,8 +510,46 @@ pub fn push_line<T: AsRef<[u8]>>(out: &mut Vec<u8>, line: &Line<T>) {
             }
             push_field(out, b'L', &content);
         }
-        Line::Border { tag, segments } => push_tagged(out, b'B', *tag, segments),
+        Line::Border {
+            tag,
+            segments,
+            holes,
+        } if holes.is_empty() => push_tagged(out, b'B', *tag, segments),
+        Line::Border {
+            tag,
+            segments,
+            holes,
+        } => {
+            let mut content = vec![*tag];
+            content.extend(two_bytes(segments.len()));
+            content.extend(segments);
+            for hole in holes {
+                content.extend(two_bytes(hole.place));
+                push_piece(&mut content, &hole.piece);
+            }
+            push_field(out, b'G', &content);
+        }
     }
+}
+
+/// Appends a V field whose position and content fit.
+fn push_hanging<T: AsRef<[u8]>>(out: &mut Vec<u8>, cell: &Hanging<T>) {
+    let [high, low] = two_bytes(cell.position);
+    push_cell(out, b'V', &[high, low, cell.width, cell.rows], &cell.lines);
+}
+
+/// Appends a C, K or V field: its first bytes, then its lines.
+fn push_cell<T: AsRef<[u8]>>(out: &mut Vec<u8>, letter: u8, head: &[u8], lines: &[Line<T>]) {
+    let mut content = head.to_vec();
+    for line in lines {
+        push_line(&mut content, line);
+    }
+    push_field(out, letter, &content);
+}
+
+fn two_bytes(number: usize) -> [u8; 2] {
+    let number = u16::try_from(number).expect("a number of two bytes");
+    number.to_be_bytes()
 }
 
 fn push_piece<T: AsRef<[u8]>>(out: &mut Vec<u8>, piece: &Piece<T>) {
@@ -328,11 +592,10 @@ pub fn write_job<T: AsRef<[u8]>>(job: &Job<T>) -> Vec<u8> {
 pub fn write_cells<T: AsRef<[u8]>>(cells: &[Cell<T>]) -> Vec<u8> {
     let mut out = Vec::new();
     for cell in cells {
-        let mut content = vec![cell.width];
-        for line in &cell.lines {
-            push_line(&mut content, line);
+        match cell.span {
+            None => push_cell(&mut out, b'C', &[cell.width], &cell.lines),
+            Some(span) => push_cell(&mut out, b'K', &[cell.width, span], &cell.lines),
         }
-        push_field(&mut out, b'C', &content);
     }
     out
 }

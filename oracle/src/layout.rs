@@ -3,7 +3,7 @@
 
 use crate::call::Sheet;
 use crate::checks;
-use crate::format::{self, Job, Line, Refusal};
+use crate::format::{self, Job, Line, Refusal, Rules};
 use crate::render::text_renderer::door;
 use std::str;
 
@@ -36,13 +36,13 @@ impl Columns {
         cells: &[u8],
         collapse: bool,
     ) -> Result<Columns, Refusal> {
-        let old = format::read_sheet(old)?;
-        let cells = format::read_cells(cells)?;
+        let old = format::read_sheet(old, Rules::STORED)?;
+        let cells = format::read_cells(cells, Rules::STORED)?;
         Ok(Columns(door::Columns::new(sheet, &old, &cells, collapse)))
     }
 
     /// The sheet's lines with the row; the call consumes its renderers.
     pub fn run(self) -> Vec<Line<String>> {
-        self.0.run()
+        self.0.run().lines
     }
 }

@@ -23,5 +23,6 @@ pub mod layout;
 mod make;
 mod random;
 pub mod record;
+mod row;
 pub mod show;
 pub mod vectors;

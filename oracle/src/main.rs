@@ -1,5 +1,6 @@
 //! The oracle's commands; see README.md.
 
+use oracle::format::Rules;
 use oracle::record::{self, Record};
 use oracle::show;
 use oracle::vectors::{self, Tally};
@@ -10,7 +11,8 @@ use std::process::ExitCode;
 const USAGE: &str = "\
 oracle job                          answer the job on standard input
 oracle hex <hexadecimal>            answer the job given in hexadecimal
-oracle answer                       answer the records on standard input
+oracle answer [base|spans]          answer the records on standard input, by document 01
+                                    or with request 2.1
 oracle vectors <set> <seed> <count> [<longest>]
                                     write answered records; sets: short random damaged rows rows-damaged;
                                     none whose inputs and sheet have more than that many bytes
@@ -30,7 +32,9 @@ fn main() -> ExitCode {
     let outcome = match arguments[..] {
         ["job"] => standard_input().and_then(show_job),
         ["hex", text] => show::unhex(text).ok_or_else(usage).and_then(show_job),
-        ["answer"] => standard_input().and_then(|bytes| answer(&bytes)),
+        ["answer"] => standard_input().and_then(|bytes| answer(&bytes, Rules::STORED)),
+        ["answer", "base"] => standard_input().and_then(|bytes| answer(&bytes, Rules::Base)),
+        ["answer", "spans"] => standard_input().and_then(|bytes| answer(&bytes, Rules::Spans)),
         ["vectors", set, seed, count] => write_vectors(set, seed, count, None),
         ["vectors", set, seed, count, longest] => {
             number(longest).and_then(|longest| write_vectors(set, seed, count, Some(longest)))
@@ -65,7 +69,7 @@ fn standard_input() -> io::Result<Vec<u8>> {
 fn show_job(bytes: Vec<u8>) -> io::Result<ExitCode> {
     let mut question = Record::job(bytes);
     question.store = JOB_STORE;
-    if let Err(finding) = vectors::answer(&mut question) {
+    if let Err(finding) = vectors::answer(&mut question, Rules::STORED) {
         println!("FINDING: {}", finding.0);
         return Ok(ExitCode::FAILURE);
     }
@@ -88,13 +92,13 @@ fn show_segments() -> io::Result<ExitCode> {
 }
 
 /// Answers a file of records; a record with a finding stays unanswered.
-fn answer(bytes: &[u8]) -> io::Result<ExitCode> {
+fn answer(bytes: &[u8], rules: Rules) -> io::Result<ExitCode> {
     let records = record::read_all(bytes).ok_or_else(|| io::Error::other("not records"))?;
     let mut tally = Tally::default();
     let mut out = BufWriter::new(io::stdout().lock());
     for mut question in records {
         question.reply = None;
-        match vectors::answer(&mut question) {
+        match vectors::answer(&mut question, rules) {
             Ok(number) => *tally.numbers.entry(number).or_default() += 1,
             Err(finding) => {
                 eprintln!("FINDING: {}", finding.0);

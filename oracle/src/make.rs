@@ -212,6 +212,7 @@ pub fn border(rng: &mut Rng, width: usize) -> Line<Vec<u8>> {
     Line::Border {
         tag: annotation(rng),
         segments: (0..length).map(|_| segment(rng)).collect(),
+        holes: Vec::new(),
     }
 }
 

@@ -2,6 +2,7 @@
 //! README.md describes.
 
 use crate::call::{self, Answer, Finding, Row, Sheet};
+use crate::format::Rules;
 use std::io::{self, Write};
 
 /// The number byte of a record without an answer.
@@ -78,9 +79,9 @@ impl Record {
     }
 
     /// Runs the call and keeps its answer.
-    pub fn run(&mut self) -> Result<Answer, Finding> {
+    pub fn run(&mut self, rules: Rules) -> Result<Answer, Finding> {
         let mut store = vec![FILL; self.store];
-        let answer = self.call(&mut store)?;
+        let answer = self.call(rules, &mut store)?;
         let sheet = if answer.number == 0 { answer.length } else { 0 };
         let rest = if answer.number == 0 { FILL } else { 0 };
         assert!(store[sheet..].iter().all(|byte| *byte == rest));
@@ -92,7 +93,7 @@ impl Record {
         Ok(answer)
     }
 
-    fn call(&self, store: &mut [u8]) -> Result<Answer, Finding> {
+    fn call(&self, rules: Rules, store: &mut [u8]) -> Result<Answer, Finding> {
         let [width, flags, annotation, _, _] = self.params;
         let sheet = Sheet {
             width,
@@ -115,7 +116,7 @@ impl Record {
             },
             Kind::Vertical => Row::Vertical { cells: input(1) },
         };
-        call::row(&sheet, input(0), row, store)
+        call::row_by(rules, &sheet, input(0), row, store)
     }
 
     /// How many bytes the inputs and the sheet have.

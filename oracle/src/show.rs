@@ -1,6 +1,6 @@
 //! Bytes and sheets for the eye.
 
-use crate::format::{self, Line, Piece};
+use crate::format::{self, Hanging, Hole, Line, Piece, Rules};
 use crate::render::text_renderer::door;
 
 /// Bytes in hexadecimal.
@@ -21,26 +21,46 @@ pub fn unhex(text: &str) -> Option<Vec<u8>> {
 }
 
 /// A sheet's lines, each in words: pieces as `"text"(annotation)`, names as
-/// `#"name"`, a border as `border(annotation)` and its marks.
+/// `#"name"`, a border as `border(annotation)` and its marks, then its holes as
+/// `place:piece`. Below them the hanging cells.
 pub fn sheet(bytes: &[u8]) -> Vec<String> {
-    match format::read_sheet(bytes) {
-        Ok(lines) => lines.iter().map(line).collect(),
+    match format::read_sheet(bytes, Rules::Spans) {
+        Ok(sheet) => {
+            let lines = sheet.lines.iter().map(line);
+            lines.chain(sheet.hanging.iter().map(hanging)).collect()
+        }
         Err(refusal) => vec![format!("not a sheet: refusal {}", refusal as u8)],
     }
+}
+
+/// A hanging cell as `hanging position width rows:` and its lines between bars.
+fn hanging(cell: &Hanging<&[u8]>) -> String {
+    let lines: Vec<String> = cell.lines.iter().map(line).collect();
+    let head = format!("hanging {} {} {}:", cell.position, cell.width, cell.rows);
+    [head, lines.join(" | ")].join(" ").trim_end().into()
 }
 
 fn line(line: &Line<&[u8]>) -> String {
     match line {
         Line::Text(pieces) if pieces.is_empty() => "empty".into(),
         Line::Text(pieces) => pieces.iter().map(piece).collect::<Vec<_>>().join(" "),
-        Line::Border { tag, segments } => {
+        Line::Border {
+            tag,
+            segments,
+            holes,
+        } => {
             let marks: String = segments
                 .iter()
                 .map(|segment| door::mark(*segment))
                 .collect();
-            format!("border({tag}) {marks}")
+            let holes: String = holes.iter().map(hole).collect();
+            format!("border({tag}) {marks}{holes}")
         }
     }
+}
+
+fn hole(hole: &Hole<&[u8]>) -> String {
+    format!(" {}:{}", hole.place, piece(&hole.piece))
 }
 
 fn piece(piece: &Piece<&[u8]>) -> String {

@@ -10,6 +10,7 @@ mod short;
 pub use checks::write as write_checks;
 
 use crate::call::Finding;
+use crate::format::Rules;
 use crate::random::Rng;
 use crate::record::Record;
 use crate::show;
@@ -20,6 +21,11 @@ use std::io::{self, Write};
 trait Set {
     /// The next question, with its store.
     fn next(&mut self) -> Result<Record, Finding>;
+
+    /// The rules that the questions are answered by.
+    fn rules(&self) -> Rules {
+        Rules::STORED
+    }
 
     /// Sees the answer, to build on it.
     fn learn(&mut self, _answered: &Record) {}
@@ -82,7 +88,7 @@ fn write_set(
     let mut tally = Tally::default();
     while tally.total() < count {
         let answered = set.next().and_then(|mut record| {
-            let answer = answer(&mut record)?;
+            let answer = answer(&mut record, set.rules())?;
             set.learn(&record);
             Ok((record, answer))
         });
@@ -108,8 +114,8 @@ fn is_long(record: &Record, by_hand: bool, longest: Option<usize>) -> bool {
 }
 
 /// Answers a record. A finding carries the whole record in hexadecimal.
-pub fn answer(record: &mut Record) -> Result<u8, Finding> {
-    match record.run() {
+pub fn answer(record: &mut Record, rules: Rules) -> Result<u8, Finding> {
+    match record.run(rules) {
         Ok(answer) => Ok(answer.number),
         Err(finding) => Err(Finding(format!("{}; record {}", finding.0, whole(record)))),
     }
@@ -122,9 +128,9 @@ fn whole(record: &Record) -> String {
 }
 
 /// Gives a record a store: around the length that its sheet needs, if it has one.
-fn with_store(rng: &mut Rng, mut record: Record) -> Result<Record, Finding> {
+fn with_store(rng: &mut Rng, rules: Rules, mut record: Record) -> Result<Record, Finding> {
     record.store = 0;
-    answer(&mut record)?;
+    answer(&mut record, rules)?;
     let needed = record.reply.take().map_or(0, |reply| reply.answer.length);
     record.store = match rng.below(12) {
         _ if needed == 0 => rng.pick(&[0, 1, 5, 64, 300]),

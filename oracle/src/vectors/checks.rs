@@ -2,7 +2,7 @@
 
 use super::Tally;
 use crate::checks::{self, Input, MOST_UNITS};
-use crate::format::{Cell, Line, write_cells, write_job, write_prefixes, write_sheet};
+use crate::format::{Cell, Line, Rules, write_cells, write_job, write_prefixes, write_sheet};
 use crate::make::STYLES;
 use crate::random::Rng;
 use crate::record::three_bytes;
@@ -91,7 +91,7 @@ fn candidate(rng: &mut Rng, input: Input, wanted: u8) -> Vec<u8> {
         Input::Prefixes => prefixes(rng, wanted),
     };
     if wanted == 1 {
-        damage::bytes(rng, &mut bytes);
+        damage::bytes(rng, Rules::STORED, &mut bytes);
     }
     bytes
 }
@@ -131,6 +131,7 @@ fn cells(rng: &mut Rng, wanted: u8) -> Vec<u8> {
     let count = rng.pick(&[0, 1, 2, 3, 3, 15, 16, 17]);
     let cell = |rng: &mut Rng| Cell {
         width: make::width(rng),
+        span: None,
         lines: make::lines(rng, 8, 4),
     };
     let mut cells: Vec<_> = (0..count).map(|_| cell(rng)).collect();

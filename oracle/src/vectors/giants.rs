@@ -115,7 +115,11 @@ fn full_with_guest(rng: &mut Rng, plan: &Plan) -> Record {
 }
 
 fn cell(width: u8, lines: Lines) -> Cell<Vec<u8>> {
-    Cell { width, lines }
+    Cell {
+        width,
+        span: None,
+        lines,
+    }
 }
 
 fn sheet(lines: &[Line<Vec<u8>>]) -> Vec<u8> {
@@ -135,7 +139,11 @@ fn text_line(length: usize) -> Line<Vec<u8>> {
 fn border(length: usize) -> Line<Vec<u8>> {
     let mut segments = vec![0; length];
     segments[length - 1] = 3;
-    Line::Border { tag: 0, segments }
+    Line::Border {
+        tag: 0,
+        segments,
+        holes: Vec::new(),
+    }
 }
 
 fn empty_lines(count: usize) -> Vec<u8> {

@@ -3,7 +3,7 @@
 use super::{Set, with_store};
 use crate::call::Finding;
 use crate::checks::Input;
-use crate::format::write_job;
+use crate::format::{Rules, write_job};
 use crate::random::Rng;
 use crate::record::Record;
 use crate::{damage, edges, make};
@@ -25,7 +25,7 @@ impl Set for Random {
     fn next(&mut self) -> Result<Record, Finding> {
         let units = make::size(&mut self.rng);
         let job = make::job(&mut self.rng, units);
-        with_store(&mut self.rng, Record::job(write_job(&job)))
+        with_store(&mut self.rng, Rules::STORED, Record::job(write_job(&job)))
     }
 }
 
@@ -54,7 +54,7 @@ impl Set for Damaged {
         let edge = self.edges.pop();
         self.by_hand = edge.is_some();
         let job = edge.unwrap_or_else(|| damaged(rng));
-        with_store(rng, Record::job(job))
+        with_store(rng, Rules::STORED, Record::job(job))
     }
 
     fn by_hand(&self) -> bool {
@@ -78,7 +78,7 @@ fn damaged(rng: &mut Rng) -> Vec<u8> {
     }
     let mut bytes = write_job(&job);
     for _ in 0..rng.below(3) {
-        damage::bytes(rng, &mut bytes);
+        damage::bytes(rng, Rules::STORED, &mut bytes);
     }
     bytes
 }

@@ -5,7 +5,7 @@ use super::{Set, answer, giants, with_store};
 use crate::call::Finding;
 use crate::damage;
 use crate::format::{
-    Cell, Line, Piece, read_sheet, write_cells, write_job, write_prefixes, write_sheet,
+    Cell, Line, Piece, Rules, read_sheet, write_cells, write_job, write_prefixes, write_sheet,
 };
 use crate::make::{self, STYLES};
 use crate::random::Rng;
@@ -125,6 +125,7 @@ impl Rows {
         };
         Cell {
             width: width.clamp(1, 255) as u8,
+            span: None,
             lines,
         }
     }
@@ -133,7 +134,7 @@ impl Rows {
 impl Set for Rows {
     fn next(&mut self) -> Result<Record, Finding> {
         let record = self.question();
-        with_store(&mut self.rng, record)
+        with_store(&mut self.rng, Rules::STORED, record)
     }
 
     fn learn(&mut self, answered: &Record) {
@@ -172,7 +173,7 @@ impl Set for Damaged {
         if !rng.once_in(4) {
             hurt(rng, &mut record);
         }
-        with_store(rng, record)
+        with_store(rng, Rules::STORED, record)
     }
 
     fn learn(&mut self, answered: &Record) {
@@ -188,9 +189,9 @@ fn hurt(rng: &mut Rng, record: &mut Record) {
     for _ in 0..rng.between(1, 3) {
         let place = rng.below(record.inputs.len());
         if shape_stays {
-            damage::value(rng, &mut record.inputs[place]);
+            damage::value(rng, Rules::STORED, &mut record.inputs[place]);
         } else {
-            damage::bytes(rng, &mut record.inputs[place]);
+            damage::bytes(rng, Rules::STORED, &mut record.inputs[place]);
         }
     }
 }
@@ -240,19 +241,8 @@ fn columns_of(line: &Line<Vec<u8>>) -> usize {
 
 /// The lines of a sheet that the oracle wrote.
 fn owned(bytes: &[u8]) -> Lines {
-    let own_piece = |piece| match piece {
-        Piece::Text { tag, text } => Piece::Text {
-            tag,
-            text: <[u8]>::to_vec(text),
-        },
-        Piece::Name(name) => Piece::Name(<[u8]>::to_vec(name)),
-    };
-    let own_line = |line| match line {
-        Line::Text(pieces) => Line::Text(Vec::into_iter(pieces).map(own_piece).collect()),
-        Line::Border { tag, segments } => Line::Border { tag, segments },
-    };
-    let lines = read_sheet(bytes).expect("an answer is a sheet");
-    lines.into_iter().map(own_line).collect()
+    let sheet = read_sheet(bytes, Rules::STORED).expect("an answer is a sheet");
+    sheet.map(<[u8]>::to_vec).lines
 }
 
 /// The lines of a small random job, if it has any.
@@ -263,7 +253,7 @@ fn block(rng: &mut Rng) -> Lines {
     job.overflow |= job.width == 1;
     let mut record = Record::job(write_job(&job));
     record.store = KEPT_BYTES;
-    answer(&mut record).unwrap_or_else(|finding| panic!("FINDING: {}", finding.0));
+    answer(&mut record, Rules::STORED).unwrap_or_else(|finding| panic!("FINDING: {}", finding.0));
     match record.reply {
         Some(reply) if reply.answer.number == 0 => owned(&reply.sheet),
         _ => Vec::new(),
