@@ -19,6 +19,7 @@ mod damage;
 mod edges;
 pub mod format;
 mod guard;
+pub mod known;
 pub mod layout;
 mod make;
 mod random;

@@ -1,5 +1,6 @@
 //! The file format of records, and the sets.
 
+use oracle::format::Rules;
 use oracle::record::{Kind, Record, read_all};
 use oracle::vectors::{self, SETS};
 
@@ -21,7 +22,7 @@ fn sets_read_back_and_answer_again_alike() {
         let (file, records) = read_set(set, 7, 300);
         let mut again = Vec::new();
         for mut record in records {
-            record.run().unwrap();
+            record.run(Rules::STORED).unwrap();
             record.write(&mut again).unwrap();
         }
         assert!(file == again, "{set}");
@@ -52,7 +53,7 @@ fn an_answered_record() {
     let inputs = vec![b"H\0\x02\0\0".to_vec(), Vec::new()];
     let mut record = Record::new(Kind::Vertical, [2, 2, 9, 0, 0], inputs);
     record.store = 11;
-    record.run().unwrap();
+    record.run(Rules::STORED).unwrap();
     let mut bytes = Vec::new();
     record.write(&mut bytes).unwrap();
     let answer = b"\0\0\0\0\x0BH\0\x02\0\x01B\0\x03\x09\0\0";

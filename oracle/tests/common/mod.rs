@@ -58,12 +58,14 @@ pub fn border(tag: u8, segments: &[u8]) -> Own {
     Line::Border {
         tag,
         segments: segments.to_vec(),
+        holes: Vec::new(),
     }
 }
 
 pub fn cell(width: u8, lines: &[Own]) -> Cell<&'static str> {
     Cell {
         width,
+        span: None,
         lines: lines.to_vec(),
     }
 }
