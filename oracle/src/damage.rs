@@ -68,6 +68,7 @@ pub fn bytes(rng: &mut Rng, rules: Rules, bytes: &mut Vec<u8>) {
         7 => letter(rng, rules, bytes),
         8 => length(rng, rules, bytes),
         9 => repeat_field(rng, rules, bytes),
+        10 if rules == Rules::Spans => number(rng, bytes),
         _ => content(rng, rules, bytes),
     }
 }
@@ -113,6 +114,31 @@ fn content(rng: &mut Rng, rules: Rules, bytes: &mut [u8]) {
             rng.between(start + 3, end - 1)
         };
         bytes[at] = rng.pick(&TELLING_BYTES);
+    }
+}
+
+/// Another span, rows left, position, segment count or place of a hole.
+fn number(rng: &mut Rng, bytes: &mut [u8]) {
+    let Some((start, end)) = a_field(rng, Rules::Spans, bytes) else {
+        return;
+    };
+    let (at, size) = match bytes[start] {
+        b'K' => (start + 4, 1),
+        b'V' if rng.once_in(2) => (start + 3, 2),
+        b'V' => (start + 6, 1),
+        b'G' => (start + 4, 2),
+        // Before a hole's field stands its place.
+        b'S' | b'F' if start >= 2 => (start - 2, 2),
+        _ => return,
+    };
+    if at + size > end {
+        return;
+    }
+    if size == 1 {
+        bytes[at] = rng.pick(&[0, 1, 2, 3, 15, 16, 17, 255]);
+    } else {
+        let number: u16 = rng.pick(&[0, 1, 2, 3, 4, 5, 6, 256, u16::MAX]);
+        bytes[at..at + 2].copy_from_slice(&number.to_be_bytes());
     }
 }
 

@@ -6,6 +6,7 @@ mod giants;
 mod jobs;
 mod rows;
 mod short;
+mod spans;
 
 pub use checks::write as write_checks;
 
@@ -57,7 +58,17 @@ impl Tally {
 }
 
 /// The names of the sets.
-pub const SETS: [&str; 5] = ["short", "random", "damaged", "rows", "rows-damaged"];
+pub const SETS: [&str; 9] = [
+    "short",
+    "random",
+    "damaged",
+    "rows",
+    "rows-damaged",
+    "spans",
+    "spans-damaged",
+    "spans-chain",
+    "spans-edges",
+];
 
 /// Writes `count` records of a set; `None` if there is no set of that name. Records whose
 /// inputs and sheet are longer than `longest` are left out, if there is such a bound.
@@ -74,6 +85,10 @@ pub fn write(
         "damaged" => Box::new(jobs::Damaged::new(seed)),
         "rows" => Box::new(rows::Rows::new(seed)),
         "rows-damaged" => Box::new(rows::Damaged::new(seed)),
+        "spans" => Box::new(spans::Spans::new(seed)),
+        "spans-damaged" => Box::new(spans::Damaged::new(seed)),
+        "spans-chain" => Box::new(spans::Chain::new(seed)),
+        "spans-edges" => Box::new(spans::Edges::new(seed)),
         _ => return None,
     };
     Some(write_set(&mut *set, count, longest, out))

@@ -171,7 +171,7 @@ impl Set for Damaged {
         let rng = &mut self.rows.rng;
         // The calls that stay whole feed the pool.
         if !rng.once_in(4) {
-            hurt(rng, &mut record);
+            hurt(rng, Rules::STORED, &mut record);
         }
         with_store(rng, Rules::STORED, record)
     }
@@ -181,7 +181,7 @@ impl Set for Damaged {
     }
 }
 
-fn hurt(rng: &mut Rng, record: &mut Record) {
+pub(super) fn hurt(rng: &mut Rng, rules: Rules, record: &mut Record) {
     if rng.once_in(8) {
         record.params[0] = 0;
     }
@@ -189,9 +189,9 @@ fn hurt(rng: &mut Rng, record: &mut Record) {
     for _ in 0..rng.between(1, 3) {
         let place = rng.below(record.inputs.len());
         if shape_stays {
-            damage::value(rng, Rules::STORED, &mut record.inputs[place]);
+            damage::value(rng, rules, &mut record.inputs[place]);
         } else {
-            damage::bytes(rng, Rules::STORED, &mut record.inputs[place]);
+            damage::bytes(rng, rules, &mut record.inputs[place]);
         }
     }
 }
@@ -215,7 +215,7 @@ fn params(rng: &mut Rng, old: &Lines) -> [u8; 5] {
     [width as u8, pad | borders | third, annotation, 0, 0]
 }
 
-fn prefixes(rng: &mut Rng) -> Vec<Vec<u8>> {
+pub(super) fn prefixes(rng: &mut Rng) -> Vec<Vec<u8>> {
     let count = rng.below(6);
     let style = rng.pick(&STYLES);
     let prefix = |rng: &mut Rng| {
@@ -225,7 +225,7 @@ fn prefixes(rng: &mut Rng) -> Vec<Vec<u8>> {
     (0..count).map(|_| prefix(rng)).collect()
 }
 
-fn columns_of(line: &Line<Vec<u8>>) -> usize {
+pub(super) fn columns_of(line: &Line<Vec<u8>>) -> usize {
     let text_columns = |piece: &Piece<Vec<u8>>| match piece {
         Piece::Text { text, .. } => {
             let text = String::from_utf8_lossy(text);
