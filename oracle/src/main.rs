@@ -14,8 +14,8 @@ oracle hex <hexadecimal>            answer the job given in hexadecimal
 oracle answer [base|spans]          answer the records on standard input, by document 01
                                     or with request 2.1
 oracle vectors <set> <seed> <count> [<longest>]
-                                    write answered records; sets: short random damaged rows rows-damaged;
-                                    none whose inputs and sheet have more than that many bytes
+                                    write answered records; sets: short random damaged rows rows-damaged
+                                    spans spans-damaged spans-chain spans-edges; none whose inputs and sheet have more than that many bytes
                                     but edges made by hand, which go up to 16,384, and then
                                     no store longer than 65,536
 oracle checks <seed> <count> [<longest>]

@@ -73,6 +73,9 @@ impl Spans {
         if self.rng.once_in(6) {
             self.nest(&mut call.cells);
         }
+        if self.rng.once_in(8) {
+            draw::widen(&mut self.rng, &mut call.old.hanging);
+        }
         if kind == Kind::Vertical && !self.rng.once_in(12) {
             call.cells.iter_mut().for_each(|cell| cell.span = None);
         }

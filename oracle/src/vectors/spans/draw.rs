@@ -74,7 +74,7 @@ fn holed(rng: &mut Rng, width: usize) -> Line<Vec<u8>> {
     let Line::Border { tag, segments, .. } = border(rng, width) else {
         unreachable!("a border is drawn");
     };
-    let in_order = !rng.once_in(5);
+    let in_order = !rng.once_in(3);
     let mut next = 0;
     let holes = (0..rng.pick(&[1, 1, 2, 3])).map(|_| {
         let first = if in_order { next } else { 0 };
@@ -227,6 +227,16 @@ fn hanging(rng: &mut Rng, size: Size) -> Vec<Hanging<Vec<u8>>> {
         }
     };
     (0..count).map(|_| hung(rng)).collect()
+}
+
+/// Makes one of the hanging cells wide and short of lines.
+pub fn widen(rng: &mut Rng, hanging: &mut [Hanging<Vec<u8>>]) {
+    if hanging.is_empty() {
+        return;
+    }
+    let place = rng.below(hanging.len());
+    hanging[place].width = rng.pick(&[3, 4, 5, 6, 8, 12, 255]);
+    hanging[place].lines.truncate(rng.pick(&[0, 0, 1]));
 }
 
 /// A sheet of a few lines, ended by a border more often than not, on which cells hang.

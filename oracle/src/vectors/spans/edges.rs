@@ -104,10 +104,10 @@ fn calls() -> Vec<Record> {
         found.push(subrender(&sheet, EMPTY));
         found.push(subrender(EMPTY, &sheet));
     }
+    found.extend(giants::all());
     for line in holed_lines() {
         found.extend(around_line(&line));
     }
-    found.extend(giants::all());
     found
 }
 
@@ -353,27 +353,20 @@ fn sheets() -> Vec<Vec<u8>> {
 
 /// Sheets with many V fields, in orders that make few or many seats.
 fn many_hung() -> Vec<Vec<u8>> {
-    let orders: [fn(u16) -> u16; 6] = [
-        |_| 0,
-        |n| 2 * n,
-        |n| 3 * n,
-        |n| n % 2,
-        |n| 600 - 2 * n,
-        |n| [65_535, 3, 0][usize::from(n % 3)],
-    ];
-    let mut found = Vec::new();
+    let orders: [fn(u16) -> u16; 5] = [|_| 0, |n| 2 * n, |n| 3 * n, |n| n % 2, |n| 600 - 2 * n];
+    let line = field(b'L', GOOD);
+    let mut found: Vec<Vec<u8>> = Vec::new();
     for order in orders {
-        for (count, rows, lines) in [(17, 1, GOOD), (17, 2, b""), (300, 1, b""), (300, 2, b"")] {
-            let line = if lines.is_empty() {
-                Vec::new()
-            } else {
-                field(b'L', lines)
-            };
-            let fields = (0..count).map(|n| hung(order(n), 1, rows, &line));
-            let fields: Vec<u8> = fields.flatten().collect();
-            found.push(all(&[EMPTY, &fields]));
-            found.push(all(&[UNDER_BORDER, &fields]));
-        }
+        found.push((0..17).flat_map(|n| hung(order(n), 1, 1, &line)).collect());
+        found.push((0..17).flat_map(|n| hung(order(n), 1, 2, b"")).collect());
+        found.push((0..300).flat_map(|n| hung(order(n), 1, 1, b"")).collect());
+        found.push((0..300).flat_map(|n| hung(order(n), 1, 2, b"")).collect());
     }
-    found
+    let far = [65_535, 3, 0].map(|position| hung(position, 1, 1, b""));
+    found.push(far.concat().repeat(10));
+    let on = |old: &[u8]| {
+        let sheets = found.iter().map(|hung| all(&[old, hung]));
+        sheets.collect::<Vec<_>>()
+    };
+    [on(EMPTY), on(UNDER_BORDER)].concat()
 }

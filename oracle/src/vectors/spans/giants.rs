@@ -148,12 +148,12 @@ fn full_sheet(plan: Plan) -> Record {
     plan.columns(old, &[])
 }
 
-/// The same with a V that is too long or not, or with a hole past its border.
+/// A full sheet and a V that is too long or not; some with a hole past its border.
 fn full_with_long_cell(plan: Plan) -> Record {
     let mut record = long_hanging_cell(plan);
     record.inputs[0] = empty_lines(MOST);
-    if plan.free % 3 == 0 {
-        record.inputs[0].extend(b"V\0\x04\x03\0\x05\x02");
+    if plan.free > 128 {
+        record.inputs[0].extend(b"V\0\x04\0\x01\x05\x02");
     }
     record
 }
