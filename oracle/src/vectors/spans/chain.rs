@@ -138,7 +138,7 @@ fn grid_row(rng: &mut Rng, plan: &Plan) -> Cells {
                 lines: Vec::new(),
             };
         }
-        draw::cell_of(rng, *width)
+        draw::cell_of(rng, plan.size, *width)
     };
     let mut cells: Cells = plan.columns.iter().map(cell).collect();
     if rng.once_in(8) {

@@ -105,9 +105,12 @@ fn line(rng: &mut Rng, width: usize) -> Line<Vec<u8>> {
     }
 }
 
-/// Up to that many lines. The first and the last are borders more often than the others.
-pub fn lines(rng: &mut Rng, width: usize, most: usize) -> Lines {
-    let count = rng.between(0, most);
+/// A few lines. The first and the last are borders more often than the others.
+fn lines(rng: &mut Rng, size: Size, width: usize) -> Lines {
+    let count = match size {
+        Size::Tiny => rng.pick(&[0, 0, 1, 1, 1, 2, 2, 3]),
+        Size::Usual => rng.pick(&[0, 1, 1, 2, 2, 3, 4, 5]),
+    };
     let mut lines: Lines = (0..count).map(|_| line(rng, width)).collect();
     if let Some(first) = lines.first_mut()
         && rng.once_in(6)
@@ -137,16 +140,15 @@ fn span(rng: &mut Rng) -> Option<u8> {
 
 pub fn cell(rng: &mut Rng, size: Size) -> Cell<Vec<u8>> {
     let width = width(rng, size);
-    cell_of(rng, width)
+    cell_of(rng, size, width)
 }
 
 /// A cell of that width.
-pub fn cell_of(rng: &mut Rng, width: usize) -> Cell<Vec<u8>> {
-    let most = rng.pick(&[1, 2, 3, 3, 4, 5]);
+pub fn cell_of(rng: &mut Rng, size: Size, width: usize) -> Cell<Vec<u8>> {
     Cell {
         width: width.clamp(1, 255) as u8,
         span: span(rng),
-        lines: lines(rng, width, most),
+        lines: lines(rng, size, width),
     }
 }
 
@@ -165,6 +167,7 @@ pub fn crooked(rng: &mut Rng, size: Size) -> Cells {
         0 => rng.between(MOST_CELLS - 1, MOST_CELLS + 1),
         1..4 => rng.between(4, 6),
         4..8 => 0,
+        _ if size == Size::Tiny => rng.between(1, 2),
         _ => rng.between(1, 3),
     };
     (0..count).map(|_| cell(rng, size)).collect()
@@ -183,7 +186,7 @@ pub fn fitted(rng: &mut Rng, size: Size, hanging: &[Hanging<Vec<u8>>]) -> Cells 
             } else {
                 gap
             };
-            cells.push(cell_of(rng, width.min(255)));
+            cells.push(cell_of(rng, size, width.min(255)));
             next += width.min(255) + 1;
         }
         cells.push(stand_in(hung.width));
@@ -206,6 +209,7 @@ pub fn fitted(rng: &mut Rng, size: Size, hanging: &[Hanging<Vec<u8>>]) -> Cells 
 fn hanging(rng: &mut Rng, size: Size) -> Vec<Hanging<Vec<u8>>> {
     let count = match rng.below(12) {
         0 => rng.between(4, 9),
+        _ if size == Size::Tiny => rng.between(1, 2),
         _ => rng.between(1, 3),
     };
     let wild = rng.once_in(4);
@@ -218,12 +222,11 @@ fn hanging(rng: &mut Rng, size: Size) -> Vec<Hanging<Vec<u8>>> {
             _ => next + rng.pick(&[0, 0, 0, 1, 2, 2, 3, 4]),
         };
         next = (position + width + 1).min(300);
-        let most = rng.pick(&[0, 1, 2, 3, 4]);
         Hanging {
             position,
             width: width as u8,
             rows: rng.pick(&[1, 1, 1, 2, 2, 2, 3, 3, 4, 16]),
-            lines: lines(rng, width, most),
+            lines: lines(rng, size, width),
         }
     };
     (0..count).map(|_| hung(rng)).collect()
@@ -245,8 +248,10 @@ pub fn sheet(rng: &mut Rng, size: Size) -> Sheet {
         Size::Tiny => rng.between(1, 3),
         Size::Usual => rng.between(1, 24),
     };
-    let most = rng.pick(&[0, 1, 2, 3]);
-    let mut lines = lines(rng, width, most);
+    let mut lines = match size {
+        Size::Tiny if !rng.once_in(3) => Vec::new(),
+        _ => lines(rng, size, width),
+    };
     match rng.below(5) {
         0 | 1 => lines.push(border(rng, width)),
         2 => lines.push(holed(rng, width)),
