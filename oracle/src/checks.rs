@@ -119,7 +119,7 @@ pub enum Input {
 }
 
 impl Input {
-    /// The numbers that an input of this kind can get.
+    /// The numbers that an input of this kind can get without K, G and V fields.
     pub fn numbers(self) -> &'static [u8] {
         match self {
             Input::Job => &[0, 1, 2, 3, 4],

@@ -3,7 +3,7 @@
 use oracle::format::Rules;
 use oracle::record::{self, Record};
 use oracle::show;
-use oracle::vectors::{self, Tally};
+use oracle::vectors::{self, Drawn, Tally};
 use std::env;
 use std::io::{self, BufWriter, Read, Write};
 use std::process::ExitCode;
@@ -18,7 +18,7 @@ oracle vectors <set> <seed> <count> [<longest>]
                                     spans spans-damaged spans-chain spans-edges; none whose inputs and sheet have more than that many bytes
                                     but edges made by hand, which go up to 16,384, and then
                                     no store longer than 65,536
-oracle checks <seed> <count> [<longest>]
+oracle checks [spans] <seed> <count> [<longest>]
                                     write inputs with their refusal 0 to 4, none longer than that
                                     many bytes but edges made by hand, which go up to 8,192
 oracle segments                     print the table of border segments";
@@ -39,10 +39,8 @@ fn main() -> ExitCode {
         ["vectors", set, seed, count, longest] => {
             number(longest).and_then(|longest| write_vectors(set, seed, count, Some(longest)))
         }
-        ["checks", seed, count] => write_checks(seed, count, usize::MAX),
-        ["checks", seed, count, longest] => {
-            number(longest).and_then(|longest| write_checks(seed, count, longest as usize))
-        }
+        ["checks", "spans", ref rest @ ..] => write_checks(Drawn::Spans, rest),
+        ["checks", ref rest @ ..] => write_checks(Drawn::Base, rest),
         ["segments"] => show_segments(),
         _ => Err(usage()),
     };
@@ -120,10 +118,14 @@ fn write_vectors(set: &str, seed: &str, count: &str, longest: Option<u64>) -> io
     Ok(tell(&tally))
 }
 
-fn write_checks(seed: &str, count: &str, longest: usize) -> io::Result<ExitCode> {
-    let (seed, count) = (number(seed)?, number(count)? as usize);
+fn write_checks(drawn: Drawn, arguments: &[&str]) -> io::Result<ExitCode> {
+    let (seed, count, longest) = match *arguments {
+        [seed, count] => (number(seed)?, number(count)?, usize::MAX),
+        [seed, count, longest] => (number(seed)?, number(count)?, number(longest)? as usize),
+        _ => return Err(usage()),
+    };
     let mut out = BufWriter::new(io::stdout().lock());
-    let tally = vectors::write_checks(seed, count, longest, &mut out)?;
+    let tally = vectors::write_checks(drawn, seed, count as usize, longest, &mut out)?;
     out.flush()?;
     Ok(tell(&tally))
 }

@@ -8,7 +8,7 @@ mod rows;
 mod short;
 mod spans;
 
-pub use checks::write as write_checks;
+pub use checks::{Drawn, write as write_checks};
 
 use crate::call::Finding;
 use crate::format::Rules;

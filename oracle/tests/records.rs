@@ -2,7 +2,7 @@
 
 use oracle::format::Rules;
 use oracle::record::{Kind, Record, read_all};
-use oracle::vectors::{self, SETS};
+use oracle::vectors::{self, Drawn, SETS};
 
 /// A set's file and its records, read back.
 fn read_set(set: &str, seed: u64, count: usize) -> (Vec<u8>, Vec<Record>) {
@@ -79,7 +79,7 @@ fn broken_files() {
 #[test]
 fn checks_have_every_number() {
     let mut file = Vec::new();
-    let tally = vectors::write_checks(3, 4000, usize::MAX, &mut file).unwrap();
+    let tally = vectors::write_checks(Drawn::Base, 3, 4000, usize::MAX, &mut file).unwrap();
     assert_eq!(tally.numbers.values().sum::<usize>(), 4000);
     assert!((0..=4).all(|number| tally.numbers[&number] > 100));
 }
@@ -109,7 +109,7 @@ fn vectors_up_to_a_length() {
 #[test]
 fn checks_up_to_a_length() {
     let mut file = Vec::new();
-    let tally = vectors::write_checks(3, 4000, 100, &mut file).unwrap();
+    let tally = vectors::write_checks(Drawn::Base, 3, 4000, 100, &mut file).unwrap();
     assert!((0..=4).all(|number| tally.numbers[&number] > 0));
     let mut lengths = Vec::new();
     let mut rest = &file[..];

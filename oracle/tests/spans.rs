@@ -6,7 +6,8 @@ use oracle::checks::{self, Input};
 use oracle::format::{Contents, Rules, read_cells, read_sheet, write_cells, write_contents};
 use oracle::known::CALLS;
 use oracle::record::{Kind, Record, read_all};
-use oracle::{show, vectors};
+use oracle::show;
+use oracle::vectors::{self, Drawn};
 use std::collections::BTreeSet;
 
 const SETS: [&str; 4] = ["spans", "spans-damaged", "spans-chain", "spans-edges"];
@@ -74,6 +75,13 @@ fn every_number_is_reached() {
         let missing = wanted.iter().find(|number| !numbers.contains(number));
         assert_eq!(missing, None, "{set}");
     }
+}
+
+#[test]
+fn checks_have_every_number() {
+    let mut file = Vec::new();
+    let tally = vectors::write_checks(Drawn::Spans, 3, 4_000, usize::MAX, &mut file).unwrap();
+    assert!((0..=3).all(|number| tally.numbers[&number] > 500));
 }
 
 /// What is accepted passes 1 to 3 as the next call's sheet, and reading loses nothing.

@@ -1,6 +1,6 @@
 //! Vectors for refusals 1 to 4 alone: single inputs and the number that each gets.
 
-use super::Tally;
+use super::{Tally, spans};
 use crate::checks::{self, Input, MOST_UNITS};
 use crate::format::{Cell, Line, Rules, write_cells, write_job, write_prefixes, write_sheet};
 use crate::make::STYLES;
@@ -24,44 +24,94 @@ const TURNS: [Input; 5] = [
 /// jobs of 4,096 and 4,097 units are always there.
 const EDGE: usize = 8_192;
 
+/// The turns of request 2.1, which adds to sheets and cells alone.
+const SPAN_TURNS: [Input; 3] = [Input::Sheet, Input::Cells, Input::Sheet];
+
+/// What is drawn: document 01's inputs, or sheets and cells with K, G and V fields.
+#[derive(Clone, Copy)]
+pub enum Drawn {
+    Base,
+    Spans,
+}
+
+impl Drawn {
+    /// The rules that give the numbers.
+    fn rules(self) -> Rules {
+        match self {
+            Drawn::Base => Rules::STORED,
+            Drawn::Spans => Rules::Spans,
+        }
+    }
+
+    fn turns(self) -> &'static [Input] {
+        match self {
+            Drawn::Base => &TURNS,
+            Drawn::Spans => &SPAN_TURNS,
+        }
+    }
+
+    /// The numbers that are reached; 2 of a sheet is for its V fields.
+    fn numbers(self, input: Input) -> &'static [u8] {
+        match (self, input) {
+            (Drawn::Spans, Input::Sheet) => &[0, 1, 2, 3],
+            _ => input.numbers(),
+        }
+    }
+
+    fn by_hand(self, input: Input) -> Vec<Vec<u8>> {
+        match self {
+            Drawn::Base => edges::of(input),
+            Drawn::Spans => spans::inputs_by_hand(input),
+        }
+    }
+}
+
 /// Writes `count` checks: the edges made by hand, then random inputs of all kinds in
 /// turn, as many for each number that a kind can get. Inputs longer than `longest` are
 /// left out.
-pub fn write(seed: u64, count: usize, longest: usize, out: &mut impl Write) -> io::Result<Tally> {
+pub fn write(
+    drawn: Drawn,
+    seed: u64,
+    count: usize,
+    longest: usize,
+    out: &mut impl Write,
+) -> io::Result<Tally> {
     let mut rng = Rng::new(seed);
     let mut tally = Tally::default();
     let edges = INPUTS.iter().flat_map(|input| {
-        let inputs = edges::of(*input).into_iter();
+        let inputs = drawn.by_hand(*input).into_iter();
         inputs.map(|bytes| (*input, bytes))
     });
     let edges = edges.filter(|(_, bytes)| bytes.len() <= longest.max(EDGE));
     for (input, bytes) in edges.take(count) {
-        write_check(input, &bytes, &mut tally, out)?;
+        write_check(drawn, input, &bytes, &mut tally, out)?;
     }
     let written: usize = tally.numbers.values().sum();
-    let random = (0..).map(|turn| random(&mut rng, turn));
+    let random = (0..).map(|turn| random(&mut rng, drawn, turn));
     let random = random.filter(|(_, bytes)| bytes.len() <= longest);
     for (input, bytes) in random.take(count - written) {
-        write_check(input, &bytes, &mut tally, out)?;
+        write_check(drawn, input, &bytes, &mut tally, out)?;
     }
     Ok(tally)
 }
 
 /// The random input of a turn.
-fn random(rng: &mut Rng, turn: usize) -> (Input, Vec<u8>) {
-    let input = TURNS[turn % TURNS.len()];
-    let numbers = input.numbers();
-    let wanted = numbers[turn / TURNS.len() % numbers.len()];
-    (input, with_number(rng, input, wanted))
+fn random(rng: &mut Rng, drawn: Drawn, turn: usize) -> (Input, Vec<u8>) {
+    let turns = drawn.turns();
+    let input = turns[turn % turns.len()];
+    let numbers = drawn.numbers(input);
+    let wanted = numbers[turn / turns.len() % numbers.len()];
+    (input, with_number(rng, drawn, input, wanted))
 }
 
 fn write_check(
+    drawn: Drawn,
     input: Input,
     bytes: &[u8],
     tally: &mut Tally,
     out: &mut impl Write,
 ) -> io::Result<()> {
-    let number = checks::number(input, bytes);
+    let number = checks::number_by(drawn.rules(), input, bytes);
     *tally.numbers.entry(number).or_default() += 1;
     out.write_all(&[input as u8])?;
     out.write_all(&three_bytes(bytes.len()))?;
@@ -70,28 +120,29 @@ fn write_check(
 }
 
 /// An input that gets the number: drawn until it does.
-fn with_number(rng: &mut Rng, input: Input, wanted: u8) -> Vec<u8> {
+fn with_number(rng: &mut Rng, drawn: Drawn, input: Input, wanted: u8) -> Vec<u8> {
     loop {
-        let bytes = candidate(rng, input, wanted);
-        if checks::number(input, &bytes) == wanted {
+        let bytes = candidate(rng, drawn, input, wanted);
+        if checks::number_by(drawn.rules(), input, &bytes) == wanted {
             return bytes;
         }
     }
 }
 
 /// An input with the fault that the number is for, perhaps with faults of later numbers.
-fn candidate(rng: &mut Rng, input: Input, wanted: u8) -> Vec<u8> {
-    let mut bytes = match input {
-        Input::Job => job(rng, wanted),
-        Input::Sheet => {
+fn candidate(rng: &mut Rng, drawn: Drawn, input: Input, wanted: u8) -> Vec<u8> {
+    let mut bytes = match (input, drawn) {
+        (Input::Job, _) => job(rng, wanted),
+        (Input::Sheet, Drawn::Base) => {
             let lines = lines(rng, wanted);
             write_sheet(&lines).expect("a small sheet")
         }
-        Input::Cells => cells(rng, wanted),
-        Input::Prefixes => prefixes(rng, wanted),
+        (Input::Cells, Drawn::Base) => cells(rng, wanted),
+        (Input::Sheet | Input::Cells, Drawn::Spans) => spanned(rng, input, wanted),
+        (Input::Prefixes, _) => prefixes(rng, wanted),
     };
     if wanted == 1 {
-        damage::bytes(rng, Rules::STORED, &mut bytes);
+        damage::bytes(rng, drawn.rules(), &mut bytes);
     }
     bytes
 }
@@ -143,6 +194,18 @@ fn cells(rng: &mut Rng, wanted: u8) -> Vec<u8> {
         damage::spoil_lines(rng, &mut cells[place].lines);
     }
     write_cells(&cells)
+}
+
+/// A sheet or cells with K, G and V fields; its faults are damage that the shape does not see.
+fn spanned(rng: &mut Rng, input: Input, wanted: u8) -> Vec<u8> {
+    let mut bytes = spans::input(rng, input);
+    while faulty(rng, 2, wanted) || faulty(rng, 3, wanted) {
+        damage::value(rng, Rules::Spans, &mut bytes);
+        if rng.once_in(4) {
+            break;
+        }
+    }
+    bytes
 }
 
 fn prefixes(rng: &mut Rng, wanted: u8) -> Vec<u8> {

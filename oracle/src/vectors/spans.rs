@@ -9,8 +9,11 @@ mod giants;
 pub use chain::Chain;
 pub use edges::Edges;
 
+pub use edges::inputs_by_hand;
+
 use super::{Set, rows, with_store};
 use crate::call::Finding;
+use crate::checks::Input;
 use crate::format::{Cell, Line, Rules, read_sheet, write_cells, write_contents, write_prefixes};
 use crate::random::Rng;
 use crate::record::{BORDERS, Kind, PAD, Record, THIRD};
@@ -169,6 +172,15 @@ impl Set for Damaged {
 
     fn learn(&mut self, answered: &Record) {
         self.spans.learn(answered);
+    }
+}
+
+/// A sheet or a list of cells.
+pub fn input(rng: &mut Rng, input: Input) -> Vec<u8> {
+    let size = rng.pick(&[Size::Tiny, Size::Tiny, Size::Usual]);
+    match input {
+        Input::Cells => write_cells(&draw::crooked(rng, size)),
+        _ => bytes(&draw::sheet(rng, size)),
     }
 }
 

@@ -3,6 +3,7 @@
 
 use super::giants;
 use crate::call::Finding;
+use crate::checks::Input;
 use crate::damage;
 use crate::format::{MOST, Rules, push_field};
 use crate::known::CALLS;
@@ -109,6 +110,27 @@ fn calls() -> Vec<Record> {
         found.extend(around_line(&line));
     }
     found
+}
+
+/// Sheets or lists of cells alone.
+pub fn inputs_by_hand(input: Input) -> Vec<Vec<u8>> {
+    let with_lines = |around: fn(&[u8]) -> Vec<u8>| {
+        let lines = holed_lines().into_iter();
+        let short = lines.filter(|line| line.len() <= MOST / 2);
+        short.map(|line| around(&line)).collect::<Vec<_>>()
+    };
+    match input {
+        Input::Sheet => {
+            let in_hanging = with_lines(|line| all(&[EMPTY, &hung(0, 1, 1, line)]));
+            [sheets(), with_lines(one_line), in_hanging].concat()
+        }
+        Input::Cells => {
+            let in_cell = with_lines(|line| cell(1, line));
+            let in_spanned = with_lines(|line| spanned(1, 2, line));
+            [lists_of_cells(), in_cell, in_spanned].concat()
+        }
+        Input::Job | Input::Prefixes => Vec::new(),
+    }
 }
 
 /// A known call, and the same with each flag changed.
