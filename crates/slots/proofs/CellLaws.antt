@@ -11,14 +11,14 @@ use lib.ListN.{length, take, drop, getD, length-drop}
 use lib.Seq.{length-take-le, drop-drop, getD-take, getD-drop}
 use borrow.Author.Tests.{eqb-true, eqb-false, eq-eqb, ne-eqb}
 use Rattle.characters.proofs.Tests.{by-if}
-use Rattle.fields.specs.Field.{Raw, whole, broken, raws, readAll, fieldAt, part}
+use Rattle.fields.specs.Field.{whole, raws, readAll, fieldAt, part}
 use Rattle.fields.specs.declared.field.Field.the-variants.{At, Broken, End}
-use Rattle.fields.proofs.Fields.{FieldIs, field-is, field-broken, field-end}
+use Rattle.fields.proofs.Fields.{field-is, field-broken, field-end}
 use Rattle.fields.proofs.Readings.{ReadFirst, read-first, read-none}
 use Rattle.fields.proofs.Parts.{drop-take}
 use Rattle.rows.proofs.Reading.{OnSome, some-of}
 use Rattle.spans.specs.Sheet.{RenderLine, Cell, cell, readLine, isSpan, readCellContent, readSpanContent, readCell}
-use Rattle.spans.specs.Places.{LinesAt, CellsFrom}
+use Rattle.spans.specs.Places.{CellsFrom}
 use Rattle.slots.specs.Cell.{FirstCell}
 use Rattle.slots.proofs.Laws.{found-at}
 

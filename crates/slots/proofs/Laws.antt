@@ -11,14 +11,14 @@ use lib.Dec.{eqb}
 use lib.ListN.{length, take, drop, getD, length-drop, drop-of-length-le}
 use lib.Seq.{length-take-le, drop-drop, getD-take, getD-drop}
 use Rattle.characters.proofs.Tests.{by-if, lt-or-le}
-use Rattle.fields.specs.Field.{Raw, whole, broken, raws, readAll, fieldAt, part}
+use Rattle.fields.specs.Field.{whole, raws, readAll, fieldAt, part}
 use Rattle.fields.specs.declared.field.Field.the-variants.{At, Broken, End}
-use Rattle.fields.proofs.Fields.{FieldIs, field-is, field-broken, field-end}
+use Rattle.fields.proofs.Fields.{field-is, field-broken, field-end}
 use Rattle.fields.proofs.Readings.{read-first, read-none}
 use Rattle.fields.proofs.Parts.{drop-take}
 use Rattle.rows.proofs.Reading.{OnSome, some-of}
 use Rattle.spans.specs.Sheet.{RenderLine, Hanging, hanging, readLine, isSpan, readHangingContent, readHanging}
-use Rattle.spans.specs.Places.{LinesAt, HungFrom}
+use Rattle.spans.specs.Places.{HungFrom}
 use Rattle.slots.specs.Hung.{FirstHung}
 
 -- the parts of a V field's content

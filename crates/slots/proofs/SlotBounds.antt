@@ -1,15 +1,13 @@
 -- The numbers of a walk over the seats of a row: they stay small, and what is ahead gets less.
 -- Assumes nothing.
-use mathlib.Core.Path.{_≡_, refl, sym, subst}
+use mathlib.Core.Path.{_≡_, sym, subst}
 use mathlib.Core.List.{List}
-use mathlib.Core.Bool.{false}
 use Prim.Native.Nat.{ℕ, _+_, _-_, _≤_, _<_}
 use native.Mathlib.Omega.{arith}
 use lib.Dec.{leb, ltb}
 use lib.ListN.{length}
 use borrow.Author.Tests.{ltb-true}
 use Rattle.characters.proofs.Tests.{by-if}
-use Rattle.rows.specs.SubRenderer.{max}
 use Rattle.slots.specs.declared.cell.Laid.the-variants.{Lies}
 use Rattle.slots.specs.declared.seat.Seat.{Seat}
 use Rattle.slots.specs.declared.seat.Slots.{Slots}

@@ -3,27 +3,26 @@
 use mathlib.Core.Path.{_≡_, refl, sym, ap, ap₂, _∙_}
 use mathlib.Core.Bool.{Bool, true, false}
 use mathlib.Core.List.{List, [], _∷_, _++_, append-nil}
-use Prim.Native.Nat.{ℕ, suc, _+_, _-_, _*_, _≤_, _<_}
+use Prim.Native.Nat.{ℕ, _+_, _-_, _*_, _≤_, _<_}
 use native.Mathlib.Omega.{arith}
 use lib.Dec.{leb, ltb}
-use lib.ListN.{length, take, drop}
-use borrow.Author.Tests.{lt-ltb, le-ltb, le-leb, lt-leb, leb-true, leb-false, ltb-true, ltb-false}
+use lib.ListN.{length}
+use borrow.Author.Tests.{lt-ltb, le-ltb, leb-true, leb-false, ltb-true}
 use Rattle.characters.specs.If.{if_then_else_}
 use Rattle.characters.proofs.Tests.{by-if, and-left, and-right}
-use Rattle.fields.specs.Field.{raws, readAll, all, part}
-use Rattle.fields.proofs.Fields.{raws-nil}
+use Rattle.fields.specs.Field.{all}
 use Rattle.rows.specs.SubRenderer.{max}
 use Rattle.rows.specs.Columns.{totalWidth}
-use Rattle.spans.specs.Sheet.{Hanging, Cell, readLine, readableLines, readableHanging, readableCell}
-use Rattle.spans.specs.Places.{LinesAt, HungFrom, CellsFrom}
+use Rattle.spans.specs.Sheet.{Hanging, Cell, readableLines, readableHanging, readableCell}
 use Rattle.spans.specs.SubRenderer.{reach}
-use Rattle.spans.specs.Columns.{Slot, slot, cellSlots, hungSlot, slotsBefore, slotsAt, nextPos, gapSlot, putSlot, slotsFrom, reachPast, totalFrom, slotWidths, rowSlots}
+use Rattle.spans.specs.Columns.{Slot, slot, cellSlots, hungSlot, slotsAt, nextPos, gapSlot, putSlot, slotsFrom, reachPast, totalFrom, slotWidths, rowSlots}
 use Rattle.spans.proofs.Columns.{next-slot, last-slot}
+use Rattle.slots.proofs.Lines.{lines-nil}
 use Rattle.slots.specs.declared.cell.Laid.the-variants.{Lies, NoCell}
 use Rattle.slots.specs.declared.seat.Seat.{Seat}
 use Rattle.slots.specs.declared.seat.Slots.{Slots}
-use Rattle.slots.specs.Cell.{FirstCell, FindsCell}
-use Rattle.slots.specs.Seats.{source, SeatIs, Ready, none-ready, one-ready, two-ready, SlotsLeft, Begins, FirstSlot, Brought, HungSeat, noSeat, queueOf, laidOf, passedOf, totalOf, reachOf, gapSeat, behindOf}
+use Rattle.slots.specs.Cell.{FindsCell}
+use Rattle.slots.specs.Seats.{SeatIs, Ready, none-ready, one-ready, two-ready, SlotsLeft, Begins, FirstSlot, Brought, HungSeat, queueOf, laidOf, passedOf, totalOf, reachOf, gapSeat, behindOf}
 
 -- ---- the row's width
 
@@ -257,14 +256,6 @@ put-instead cells sheet st v hung left total l s h k = go (l .xs-are)
         put-one cells sheet st v hung left total l s x (y ∷ []) n (omega (arith, i .pos-is)) (two-ready e (hungSlot (s .one)) y refl (s .seat-is) j)
 
 -- ---- a V field behind all cells
-
--- no lines stand at one place
-pub lines-nil : (s : List ℕ) (at : ℕ) → at ≤ length s → LinesAt s at at []
-unfolding readAll
-lines-nil s at h =
-    let z : at - at ≡ 0 = omega arith in
-    let e : part at at s ≡ [] = ap (λ (m : ℕ). take m (drop at s)) z in
-    record { order = omega arith; inside = h; reads = rw (e, raws-nil) }
 
 gap-is : (cells sheet : List ℕ) (next pos : ℕ) → SeatIs cells sheet (gapSeat next pos) (slot next (pos - (next + 1)) 0 1 [])
 unfolding readableLines all

@@ -1,8 +1,8 @@
 -- What each step of a walk over the seats of a row has to show at its returns.
 -- Assumes nothing.
 use mathlib.Core.Path.{_≡_, refl, sym, ap, subst, _∙_}
-use mathlib.Core.List.{List, [], _∷_}
-use mathlib.Core.Bool.{Bool, true, false}
+use mathlib.Core.List.{List}
+use mathlib.Core.Bool.{true}
 use Prim.Native.Nat.{ℕ, _+_, _≤_, _<_}
 use native.Mathlib.Omega.{arith}
 use lib.ListN.{length}
@@ -10,7 +10,7 @@ use borrow.Author.Tests.{lt-ltb, le-ltb}
 use Rattle.characters.proofs.Tests.{and-left}
 use Rattle.fields.specs.Field.{all}
 use Rattle.spans.specs.Sheet.{Hanging, readableHanging}
-use Rattle.spans.specs.Columns.{Slot, hungSlot}
+use Rattle.spans.specs.Columns.{Slot}
 use Rattle.slots.specs.declared.cell.Laid.the-variants.{Lies, NoCell}
 use Rattle.slots.specs.declared.hung.Hung.the-variants.{Hangs}
 use Rattle.slots.specs.declared.hung.Hung.the-variants as hung-variants
@@ -21,8 +21,8 @@ use Rattle.slots.specs.declared.seat.Turn.{Turn}
 use Rattle.slots.specs.declared.seat.Turn.the-variants.{Gives, Again, Ends}
 use Rattle.slots.specs.Cell.{CellIn, FindsCell}
 use Rattle.slots.specs.Hung.{FirstHung, HungIn, FindsHung}
-use Rattle.slots.specs.Seats.{SeatIn, SlotsIn, slotsMeasure, SlotsLeft, FoundIn, NextIn, FindsNext, noSeat, queueOf, laidOf, passedOf, totalOf, reachOf, gapSeat, behindOf, TurnIn, TurnIs, Meets, Brought, BringsIn, Brings, LastsIn, Lasts, PutsIn, HungSeat, Puts}
-use Rattle.slots.proofs.SlotLaws.{brought, brought-none, brought-full, brought-ready, Stands, stands-none, stands-before, passes, put-instead, put-behind, at-last}
+use Rattle.slots.specs.Seats.{SeatIn, SlotsIn, slotsMeasure, SlotsLeft, NextIn, FindsNext, queueOf, laidOf, passedOf, totalOf, reachOf, gapSeat, behindOf, TurnIn, Meets, BringsIn, Brings, LastsIn, Lasts, PutsIn, HungSeat, Puts}
+use Rattle.slots.proofs.SlotLaws.{brought, brought-none, brought-full, brought-ready, stands-none, stands-before, passes, put-instead, put-behind, at-last}
 use Rattle.slots.proofs.SlotBounds.{laid-in, passed-in, total-in, behind-in, instead-in}
 
 -- ---- `bring`

@@ -1,5 +1,4 @@
 -- `seat::behind` meets its contract. Assumes nothing.
-use mathlib.Core.Path.{ap}
 use borrow.Author.Needs.{needs}
 use Rattle.slots.proofs.SlotSteps.{behind-gap, behind-near}
 use Rattle.slots.proofs.seat.behind.Statement.{statement}
