@@ -49,7 +49,7 @@ unfolding totalFrom slotsAt nextPos
 last-total v vs next total = refl
 
 -- the larger of two numbers
-max-left : (m n : ℕ) → n ≤ m → max m n ≡ m
+pub max-left : (m n : ℕ) → n ≤ m → max m n ≡ m
 max-left m n h = by-if (λ (z : ℕ). z ≡ m) (leb m n) (λ e. omega (arith, leb-true m n e)) (λ _. refl)
 
 -- a V field only widens a row

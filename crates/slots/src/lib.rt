@@ -3,3 +3,4 @@ pub mod cell;
 pub mod column;
 pub mod hung;
 pub mod seat;
+pub mod survey;
