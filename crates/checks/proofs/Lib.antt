@@ -1,0 +1,4 @@
+pub mod HoleLaws
+pub mod LineLaws
+pub mod SplitLaws
+pub mod SheetLaws
