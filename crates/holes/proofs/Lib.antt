@@ -1,0 +1,4 @@
+pub mod ColsLaws
+pub mod OverlapLaws
+pub mod Segments
+pub mod DrawLaws

@@ -1,0 +1,3 @@
+pub mod Overlap
+pub mod Cols
+pub mod Drawing
