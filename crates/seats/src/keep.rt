@@ -1,0 +1,69 @@
+// The first seats of a row in arrays.
+use slots::seat::Next;
+use slots::seat::Slots;
+use slots::seat::next_slot;
+ghost use Rattle.slots.specs.Seats.{SlotsIn};
+ghost use Rattle.seats.specs.Keep.{KeptIn, KeepsSeats};
+
+// How many seats stand in the arrays, whether there may be more, the row's width, one too high, where there are none, and what is ahead behind them.
+pub struct Kept {
+    pub n: usize,
+    pub more: bool,
+    pub total: usize,
+    pub rest: Slots,
+}
+
+// The first seats of the row, at most 16.
+pub fn keep_seats(
+    cells: &[u8],
+    sheet: &[u8],
+    first: Slots,
+    at: &mut [usize; 16],
+    end: &mut [usize; 16],
+    width: &mut [usize; 16],
+    to: &mut [usize; 16],
+    span: &mut [usize; 16],
+    hung: &mut [bool; 16],
+) -> Kept
+    requires { ⌜ SlotsIn (now cells) (now sheet) first ⌝ }
+    ensures { λ r. ⌜ KeptIn (now (cells .entry)) (now (sheet .entry)) (now (at .exit)) (now (end .exit)) (now (width .exit)) (now (to .exit)) (now (span .exit)) (now (hung .exit)) r ⌝ }
+    ensures { λ r. ⌜ KeepsSeats (now (cells .entry)) (now (sheet .entry)) first (now (at .exit)) (now (end .exit)) (now (width .exit)) (now (to .exit)) (now (span .exit)) (now (hung .exit)) r ⌝ }
+{
+    let ats: &mut [usize] = at;
+    let ends: &mut [usize] = end;
+    let widths: &mut [usize] = width;
+    let tos: &mut [usize] = to;
+    let spans: &mut [usize] = span;
+    let hungs: &mut [bool] = hung;
+    let mut st = first;
+    let mut k: usize = 0;
+    while k < 16 {
+        let next = next_slot(cells, sheet, st);
+        match next {
+            Next::Is { seat, rest } => {
+                ats[k] = seat.at;
+                ends[k] = seat.end;
+                widths[k] = seat.width;
+                tos[k] = seat.to;
+                spans[k] = seat.span;
+                hungs[k] = seat.hung;
+                k += 1;
+                st = rest;
+            }
+            Next::NoMore(total) => {
+                return Kept {
+                    n: k,
+                    more: false,
+                    total,
+                    rest: st,
+                };
+            }
+        }
+    }
+    Kept {
+        n: k,
+        more: true,
+        total: 0,
+        rest: st,
+    }
+}
