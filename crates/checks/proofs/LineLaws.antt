@@ -1,23 +1,23 @@
 -- Laws of the refusals of lines, and of fields that hold lines: cells, and cells that hang.
 -- Assumes nothing.
 use mathlib.Core.Path.{_≡_, refl, sym, ap, _∙_}
-use mathlib.Core.Bool.{Bool, true, false, _&&_}
+use mathlib.Core.Bool.{Bool, true, false}
 use mathlib.Core.Option.{Option, none, some, Option·map}
 use mathlib.Core.List.{List, [], _∷_}
 use Prim.Native.Nat.{ℕ, _-_, _+_, _*_, _≤_, _<_}
 use native.Mathlib.Omega.{arith}
 use lib.Dec.{leb, eqb}
 use lib.ListN.{length, take, drop, getD}
-use borrow.Author.Tests.{le-leb, lt-leb, eq-eqb, ne-eqb}
+use borrow.Author.Tests.{le-leb, lt-leb, ne-eqb}
 use Rattle.characters.specs.If.{if_then_else_}
-use Rattle.fields.specs.Field.{Raw, whole, broken, raws, readAll, all}
+use Rattle.fields.specs.Field.{whole, broken, raws, readAll, all}
 use Rattle.fields.specs.First.{firstOf, firstOver, refusalOf, unless}
 use Rattle.fields.specs.Sheet.{readPiece, isSegment, border as base-border, readLine as baseLine, readableLine as base-readable}
 use Rattle.fields.specs.Walk.{pieceRefusal, lineRefusal as baseRefusal}
 use Rattle.fields.proofs.First.{first-zero, one-first}
 use Rattle.fields.proofs.Sheets.{pieces-all, mapped, two-after}
 use Rattle.fields.proofs.Texts.{rest}
-use Rattle.spans.specs.Sheet.{RenderLine, text, border, Hanging, hanging, Cell, cell, readLine, isSpan, readHanging, readCell, readPlainCell, readableLine, readableLines}
+use Rattle.spans.specs.Sheet.{RenderLine, text, border, hanging, cell, readLine, isSpan, readHanging, readCell, readPlainCell, readableLine, readableLines}
 use Rattle.spans.specs.Refusals.{lineRefusal, linesRefusal, judgedHanging, hangingRefusal, judgedCell, cellRefusal, plainCellRefusal}
 use Rattle.spans.proofs.Refusing.{lines-all}
 use Rattle.checks.specs.Walk.{bodyRefusal, refusalIn}

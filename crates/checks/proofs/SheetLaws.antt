@@ -7,24 +7,22 @@ use mathlib.Core.List.{List, [], _∷_}
 use Prim.Native.Nat.{ℕ, _+_, _-_, _*_, _≤_, _<_}
 use native.Mathlib.Omega.{arith}
 use lib.Dec.{leb, eqb}
-use lib.ListN.{length, take, drop, getD, length-drop, drop-of-length-le}
+use lib.ListN.{length, take, drop, getD, length-drop}
 use lib.Seq.{length-take-le, drop-drop}
 use borrow.Author.Tests.{leb-true, eqb-true, eqb-false, eq-eqb, ne-eqb}
 use Rattle.characters.specs.If.{if_then_else_}
 use Rattle.characters.proofs.Tests.{by-if}
 use Rattle.fields.specs.Field.{Raw, whole, rawsF, raws, readAll, all, part}
-use Rattle.fields.specs.First.{firstOf, firstOver, refusalOf, unless}
-use Rattle.fields.specs.Sheet.{upTo16}
+use Rattle.fields.specs.First.{firstOf, firstOver, unless}
 use Rattle.fields.proofs.Fields.{raws-cons}
 use Rattle.fields.proofs.Readings.{read-size}
-use Rattle.fields.proofs.Sheets.{Headed, head-left, Sized, sized, too-many, not-too-many}
+use Rattle.fields.proofs.Sheets.{Headed, head-left, sized, too-many, not-too-many}
 use Rattle.fields.proofs.Texts.{rest}
-use Rattle.spans.specs.Sheet.{RenderLine, Hanging, Sheet, sheetOf, Cell, readLine, readHanging, beforeHanging, fromHanging, counted, readHeaded, readSheet, readCell, readCells, readPlainCell, readPlainCells, wideHanging, wide, readableSheet, readableCell}
+use Rattle.spans.specs.Sheet.{RenderLine, Hanging, Sheet, sheetOf, readLine, readHanging, beforeHanging, fromHanging, counted, readHeaded, readSheet, readCell, readCells, readPlainCell, readPlainCells, wide, readableCell}
 use Rattle.spans.specs.Refusals.{linesRefusal, hangingRefusal, overhangRefusal, cellRefusal, plainCellRefusal, cellsRefusal, plainCellsRefusal}
-use Rattle.spans.specs.Places.{LinesAt, HungFrom, CellsFrom}
 use Rattle.spans.specs.Answer.{sheetRefusal}
 use Rattle.spans.proofs.Refusing.{sheet-walk, sheet-miscounts, cells-all, plain-cells-all}
-use Rattle.checks.specs.Split.{SplitAt, SheetAt, FindsHanging, countedRefusal}
+use Rattle.checks.specs.Split.{SplitAt, FindsHanging, countedRefusal}
 use Rattle.checks.specs.declared.sheet.Split.{Split}
 
 -- ---- the head

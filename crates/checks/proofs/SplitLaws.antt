@@ -1,21 +1,20 @@
 -- Laws of the fields behind a sheet's head, split at the first V.
 -- Assumes nothing.
-use mathlib.Core.Path.{_≡_, refl, sym, ap, ap₂, _∙_}
+use mathlib.Core.Path.{_≡_, refl, sym, ap, _∙_}
 use mathlib.Core.Bool.{Bool, true, false}
-use mathlib.Core.Option.{Option, none, some}
 use mathlib.Core.List.{List, [], _∷_, _++_, append-nil, append-assoc}
-use Prim.Native.Nat.{ℕ, suc, _+_, _-_, _*_, _≤_, _<_}
+use Prim.Native.Nat.{ℕ, suc, _+_, _-_, _*_, _≤_}
 use native.Mathlib.Omega.{arith}
-use lib.Dec.{leb, eqb}
+use lib.Dec.{leb}
 use lib.ListN.{length, take, drop, length-drop, length-append, drop-of-length-le}
-use lib.Seq.{length-take-le, take-take, take-all, drop-drop}
-use borrow.Author.Tests.{leb-true, le-leb, eq-eqb, ne-eqb}
+use lib.Seq.{length-take-le, take-take, take-all}
+use borrow.Author.Tests.{leb-true, le-leb, ne-eqb}
 use Rattle.characters.specs.If.{if_then_else_}
 use Rattle.fields.specs.Field.{Raw, whole, broken, raws, fieldAt, part}
-use Rattle.fields.specs.declared.field.Field.the-variants.{At, Broken, End}
-use Rattle.fields.proofs.Fields.{FieldIs, field-is, raws-nil}
+use Rattle.fields.specs.declared.field.Field.the-variants.{At, Broken}
+use Rattle.fields.proofs.Fields.{field-is, raws-nil}
 use Rattle.fields.proofs.Parts.{drop-take}
-use Rattle.spans.specs.Sheet.{isHanging, beforeHanging, fromHanging}
+use Rattle.spans.specs.Sheet.{beforeHanging, fromHanging}
 use Rattle.checks.specs.Split.{SplitAt}
 
 -- ---- a field that lies in a part

@@ -19,7 +19,7 @@ pub fn cells_refusal(s: &[u8]) -> u8
 pub fn plain_cells_refusal(s: &[u8]) -> u8
     ensures { λ r. ⌜ r ≡ plainCellsRefusal (now (s .entry)) ⌝ }
 {
-    if 16 < count_fields(s) {
+    if count_fields(s) > 16 {
         return 1;
     }
     fields_refusal(Kind::Plain, s)

@@ -1,13 +1,10 @@
 -- `holes::hole_refusal` meets its contract: a field that does not pass, a name, a text.
 -- Assumes nothing.
-use mathlib.Core.Path.{_≡_, sym, _∙_}
+use mathlib.Core.Path.{sym, _∙_}
 use native.Mathlib.Omega.{arith}
 use denote.Ref.{now}
-use lib.ListN.{length, length-drop}
+use lib.ListN.{length}
 use Prim.Native.Nat.{_≤_}
-use Rattle.fields.specs.Field.{whole}
-use Rattle.fields.specs.Walk.{pieceRefusal}
-use Rattle.fields.proofs.Texts.{rest}
 use Rattle.checks.proofs.HoleLaws.{hole-refused, hole-name, text-size, hole-text}
 use borrow.Author.Needs.{needs}
 use Rattle.checks.proofs.holes.hole_refusal.Statement.{statement}

@@ -1,6 +1,6 @@
 -- `holes::holed_refusal` meets its contract, case by case of its tests.
 -- Assumes nothing.
-use mathlib.Core.Path.{_≡_, sym, _∙_}
+use mathlib.Core.Path.{sym, _∙_}
 use native.Mathlib.Omega.{arith}
 use Rattle.checks.proofs.HoleLaws.{short-holed, bare-holed, crooked-holed, right-holed}
 use borrow.Author.Needs.{needs}

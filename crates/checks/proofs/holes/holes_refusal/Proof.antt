@@ -1,6 +1,5 @@
 -- `holes::holes_refusal` meets its contract: the refusal so far and those of the holes left give that of all.
 -- Assumes nothing.
-use mathlib.Core.Path.{_≡_, sym, _∙_}
 use Prim.Native.Nat.{_-_}
 use native.Mathlib.Omega.{arith}
 use lib.ListN.{length, drop}

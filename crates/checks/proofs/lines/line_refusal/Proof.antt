@@ -1,11 +1,6 @@
 -- `lines::line_refusal` meets its contract, case by case of its tests.
 -- Assumes nothing.
-use mathlib.Core.Path.{_≡_, sym, ap, _∙_}
-use mathlib.Core.List.{List}
-use Prim.Native.Nat.{ℕ}
-use denote.Ref.{now}
-use Rattle.fields.specs.Field.{whole}
-use Rattle.spans.specs.Refusals.{lineRefusal}
+use mathlib.Core.Path.{_∙_}
 use Rattle.checks.proofs.LineLaws.{text-line, border-line, no-line}
 use borrow.Author.Needs.{needs}
 use Rattle.checks.proofs.lines.line_refusal.Statement.{statement}

@@ -1,6 +1,6 @@
 -- `lines::lines_refusal` meets its contract: the refusal so far and those of the lines left give that of all.
 -- Assumes nothing.
-use mathlib.Core.Path.{_≡_, sym, _∙_}
+use mathlib.Core.Path.{sym, _∙_}
 use Prim.Native.Nat.{_-_}
 use native.Mathlib.Omega.{arith}
 use lib.ListN.{length, length-drop}

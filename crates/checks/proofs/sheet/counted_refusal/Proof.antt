@@ -1,10 +1,9 @@
 -- `sheet::counted_refusal` meets its contract, case by case of its test.
 -- Assumes nothing.
-use mathlib.Core.Path.{sym, ap₂, _∙_}
+use mathlib.Core.Path.{sym, _∙_}
 use native.Mathlib.Omega.{arith}
 use lib.Seq.{length-take-le}
 use denote.Ref.{now}
-use Rattle.fields.specs.First.{firstOf}
 use Rattle.checks.proofs.SheetLaws.{wrong-count, right-count}
 use borrow.Author.Needs.{needs}
 use Rattle.checks.proofs.sheet.counted_refusal.Statement.{statement}

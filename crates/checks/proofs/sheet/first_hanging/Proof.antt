@@ -2,8 +2,6 @@
 -- Assumes nothing.
 use native.Mathlib.Omega.{arith}
 use denote.Ref.{now}
-use lib.ListN.{length, length-drop}
-use Rattle.fields.proofs.Texts.{rest}
 use Rattle.checks.proofs.SheetLaws.{short-sheet, split-sheet, behind-head}
 use borrow.Author.Needs.{needs}
 use Rattle.checks.proofs.sheet.first_hanging.Statement.{statement}
