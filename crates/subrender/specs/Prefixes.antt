@@ -1,0 +1,113 @@
+-- A guest's lines behind their prefixes: what each function does to the sheet's lines, for inputs that passed refusals 1 to 3
+-- and 10.
+-- Assumes nothing: these are definitions.
+use mathlib.Core.Path.{_≡_}
+use mathlib.Core.Bool.{Bool, true, false, _&&_}
+use mathlib.Core.Option.{some}
+use mathlib.Core.List.{List, [], _∷_, _++_, map}
+use Prim.Native.Nat.{ℕ, _+_, _-_, _≤_}
+use lib.ListN.{length, take, drop}
+use Rattle.characters.specs.If.{if_then_else_}
+use Rattle.fields.specs.Field.{whole, raws, readAll, all}
+use Rattle.fields.specs.Text.{readableText}
+use Rattle.fields.specs.Sheet.{readPrefix}
+use Rattle.fields.specs.Widths.{text-width}
+use Rattle.borders.specs.BorderHoriz.{new-type}
+use Rattle.rows.specs.declared.RenderOptions.{RenderOptions}
+use Rattle.block.specs.Demands.{WellFormed}
+use Rattle.rows.specs.SubRenderer.{later}
+use Rattle.spans.specs.Sheet.{RenderLine, readLine, readableLine, Cell, readPlainCell, readableCell}
+use Rattle.spans.specs.SubRenderer.{padded, plainBorder}
+use Rattle.extend_lines.specs.Emitted.{Emitted}
+use Rattle.extend_lines.specs.declared.lines.Lines.{Lines}
+use Rattle.subrender.specs.Misfit.{overlapping, anyOverlapping, guestMisfit, cellsMisfit, behindPrefix, behindPrefixes, cellLines}
+use Rattle.subrender.specs.declared.prefixed.Prefix.{Prefix}
+
+-- ---- the prefix of the next line
+
+-- its numbers
+pub record Placed (prefixes : List ℕ) (p : Prefix) : Type 0 where
+  pub order : p .from ≤ p .to
+  pub inside : p .to ≤ length prefixes
+  pub size : p .to ≤ p .from + 65535
+  pub cols : p .cols ≤ 131070
+
+-- its text
+abbrev pub current : List ℕ → Prefix → List ℕ
+current prefixes p = take (p .to - p .from) (drop (p .from) prefixes)
+
+-- those to come after it, if there is one, and qs after that
+abbrev pub coming : Bool → Bool → List ℕ → List (List ℕ) → List (List ℕ)
+coming true rep p qs = later rep p qs
+coming false rep p qs = qs
+
+-- the prefixes to come are ps
+pub record Coming (prefixes : List ℕ) (rep : Bool) (p : Prefix) (ps : List (List ℕ)) : Type 0 where
+  pub after : List (List ℕ)
+  pub reads : readAll readPrefix (raws (drop (p .to) prefixes)) ≡ some after
+  pub readable : all (readableText false) after ≡ true
+  pub all-coming : ps ≡ coming (p .found) rep (current prefixes p) after
+  pub text : p .found ≡ true → WellFormed (current prefixes p) × (text-width (current prefixes p) ≡ p .cols)
+
+-- one of them is found, or none is left
+abbrev pub Found : Bool → List ℕ → Bool → Prefix → List (List ℕ) → Type 0
+Found true prefixes rep r ps =
+    (qs : List (List ℕ)) × (ps ≡ current prefixes r ∷ qs) × Coming prefixes rep r (later rep (current prefixes r) qs)
+Found false prefixes rep r ps = ps ≡ []
+
+-- from one prefix to the next
+abbrev pub Steps : List ℕ → Bool → Prefix → Prefix → Type 0
+Steps prefixes rep p r = (ps : List (List ℕ)) → Coming prefixes rep p ps → Found (r .found) prefixes rep r ps
+
+-- the last one, which stays only if it repeats
+abbrev pub again : Prefix → Bool → Prefix
+again p rep = record { found = p .found && rep; from = p .from; to = p .to; cols = p .cols }
+
+-- before the first
+abbrev pub noPrefix : Prefix
+noPrefix = record { found = false; from = 0; to = 0; cols = 0 }
+
+-- ---- lines
+
+-- one line behind its prefix
+abbrev pub AddsPrefixed : List ℕ → Lines → RenderOptions → List ℕ → ℕ → ℕ → List ℕ → List ℕ → Lines → Type 0
+AddsPrefixed out p s prefix cols letter content out′ r =
+    (g : RenderLine) → readLine (whole letter content) ≡ some g → readableLine g ≡ true → overlapping g ≡ false
+    → WellFormed prefix → text-width prefix ≡ cols
+    → (st : List ℕ) (ls : List RenderLine) → Emitted st ls [] out p → Emitted st (ls ++ (padded s (behindPrefix s prefix g) ∷ [])) [] out′ r
+
+-- all pairs
+abbrev pub AddsGuest : List ℕ → Lines → RenderOptions → List ℕ → List ℕ → Bool → List ℕ → Lines → Type 0
+AddsGuest out p s guest prefixes rep out′ r =
+    (gs : List RenderLine) (ps : List (List ℕ)) → readAll readLine (raws guest) ≡ some gs → all readableLine gs ≡ true
+    → readAll readPrefix (raws prefixes) ≡ some ps → all (readableText false) ps ≡ true → guestMisfit rep gs ps ≡ false
+    → (st : List ℕ) (ls : List RenderLine) → Emitted st ls [] out p → Emitted st (ls ++ map (padded s) (behindPrefixes s rep gs ps)) [] out′ r
+
+-- ---- cells
+
+-- a border of one segment
+abbrev pub AddsRule : List ℕ → Lines → RenderOptions → ℕ → List ℕ → Lines → Type 0
+AddsRule out p s segment out′ r =
+    (st : List ℕ) (ls : List RenderLine) → Emitted st ls [] out p
+    → Emitted st (ls ++ (padded s (plainBorder (s .annotation) (new-type (s .width) segment)) ∷ [])) [] out′ r
+
+-- a border of one segment, or nothing where it is not drawn
+abbrev pub ruleIf : RenderOptions → ℕ → Bool → List RenderLine
+ruleIf s segment drawn = if drawn then plainBorder (s .annotation) (new-type (s .width) segment) ∷ [] else []
+
+-- the same, added
+abbrev pub AddsRuleIf : List ℕ → Lines → RenderOptions → ℕ → Bool → List ℕ → Lines → Type 0
+AddsRuleIf out p s segment drawn out′ r =
+    (st : List ℕ) (ls : List RenderLine) → Emitted st ls [] out p → Emitted st (ls ++ map (padded s) (ruleIf s segment drawn)) [] out′ r
+
+-- the lines of one cell, with an empty prefix that repeats
+abbrev pub AddsCell : List ℕ → Lines → RenderOptions → List ℕ → List ℕ → Lines → Type 0
+AddsCell out p s body out′ r =
+    (gs : List RenderLine) → readAll readLine (raws body) ≡ some gs → all readableLine gs ≡ true → anyOverlapping gs ≡ false
+    → (st : List ℕ) (ls : List RenderLine) → Emitted st ls [] out p → Emitted st (ls ++ map (padded s) (behindPrefixes s true gs ([] ∷ []))) [] out′ r
+
+-- all cells
+abbrev pub AddsCells : List ℕ → Lines → RenderOptions → List ℕ → List ℕ → Lines → Type 0
+AddsCells out p s cells out′ r =
+    (cs : List Cell) → readAll readPlainCell (raws cells) ≡ some cs → all readableCell cs ≡ true → cellsMisfit cs ≡ false
+    → (st : List ℕ) (ls : List RenderLine) → Emitted st ls [] out p → Emitted st (ls ++ map (padded s) (cellLines s true cs)) [] out′ r

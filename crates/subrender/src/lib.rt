@@ -1,0 +1,83 @@
+// `append_subrender` and `append_vert_row` (document 01, "Rows and blocks on a sheet", and request 2.1): a guest's lines behind their
+// prefixes, and cells below each other with borders between them. The cells that hang from the sheet are handed on, and the guest's dropped.
+mod cells;
+mod misfit;
+mod prefixed;
+
+use crate::cells::add_cells;
+use crate::cells::add_rule_if;
+use crate::misfit::cells_misfit;
+use crate::misfit::guest_misfit;
+use crate::prefixed::add_guest;
+use checks::cells::plain_cells_refusal;
+use checks::sheet::first_hanging;
+use checks::sheet::sheet_refusal;
+use extend_lines::copy::copy_lines;
+use extend_lines::copy::hand_on;
+use extend_lines::lines::close;
+use extend_lines::lines::no_lines;
+use fields::answer::Rendered;
+use fields::answer::refuse;
+use fields::field::first_of;
+use fields::prefixes::prefixes_refusal;
+use rows::RenderOptions;
+use rows::width_refusal;
+ghost use mathlib.Core.Path.{_≡_};
+ghost use Rattle.fields.specs.Answer.{rendered};
+ghost use Rattle.spans.specs.Answer.{subrenderAnswer, vertRowAnswer};
+
+// The guest sheet's lines and the prefixes in pairs, which end with the shorter list; the last prefix repeats if the flag
+// says so. Number, length and every byte of the store are those of `subrenderAnswer`.
+pub fn append_subrender(
+    options: RenderOptions,
+    sheet: &[u8],
+    guest: &[u8],
+    prefixes: &[u8],
+    repeats: bool,
+    store: &mut [u8],
+) -> Rendered
+    ensures { λ r. ⌜ rendered r (now (store .exit)) ≡ subrenderAnswer options (now (sheet .entry)) (now (guest .entry)) (now (prefixes .entry)) repeats (now (store .entry)) ⌝ }
+{
+    let sheets = first_of(sheet_refusal(sheet), sheet_refusal(guest));
+    let rest = first_of(prefixes_refusal(prefixes), width_refusal(options.width));
+    let n = first_of(sheets, rest);
+    if n != 0 {
+        return refuse(n, store);
+    }
+    let last = first_hanging(guest);
+    let lines = &guest[5..last];
+    if guest_misfit(lines, prefixes, repeats) {
+        return refuse(10, store);
+    }
+    let hung = first_hanging(sheet);
+    let old = copy_lines(store, no_lines(), &sheet[5..hung]);
+    let new = add_guest(store, old, options, lines, prefixes, repeats);
+    let all = hand_on(store, new, &sheet[hung..]);
+    close(all, store)
+}
+
+// The cells below each other, each with an empty prefix; borders of HorizVert between them and one of Horiz at the end, if
+// borders are on. Number, length and every byte of the store are those of `vertRowAnswer`.
+pub fn append_vert_row(
+    options: RenderOptions,
+    sheet: &[u8],
+    cells: &[u8],
+    store: &mut [u8],
+) -> Rendered
+    ensures { λ r. ⌜ rendered r (now (store .exit)) ≡ vertRowAnswer options (now (sheet .entry)) (now (cells .entry)) (now (store .entry)) ⌝ }
+{
+    let inputs = first_of(sheet_refusal(sheet), plain_cells_refusal(cells));
+    let n = first_of(inputs, width_refusal(options.width));
+    if n != 0 {
+        return refuse(n, store);
+    }
+    if cells_misfit(cells) {
+        return refuse(10, store);
+    }
+    let hung = first_hanging(sheet);
+    let old = copy_lines(store, no_lines(), &sheet[5..hung]);
+    let new = add_cells(store, old, options, cells);
+    let lines = add_rule_if(store, new, options, 0, options.borders);
+    let all = hand_on(store, lines, &sheet[hung..]);
+    close(all, store)
+}
