@@ -1,5 +1,5 @@
 // The columns of a hole, of pieces, and of a line that is filled.
-use tagged_line::width::text_width;
+use fields::width::text_width;
 ghost use mathlib.Core.Path.{_≡_};
 ghost use Prim.Native.Nat.{_+_, _-_, _*_, _≤_, _<_};
 ghost use lib.ListN.{length};
