@@ -1,8 +1,11 @@
 // Lines and pieces by their places. The first line of a sheet stands at 5, behind the head; the next one where a line ends.
+use crate::two::two_at;
 use fields::field::Field;
 use fields::field::field_at;
 ghost use mathlib.Core.Path.{_≡_};
-ghost use Rattle.reader.specs.Reading.{pieceAt, lineAt, lineEnd, partOf, textOf, nameOf};
+ghost use Prim.Native.Nat.{_≤_};
+ghost use lib.ListN.{length};
+ghost use Rattle.reader.specs.Reading.{pieceAt, plainBorder, holedBorder, lineAt, lineEnd, linesEnd, lineIn, partOf, textOf, nameOf};
 
 // A piece of a line: a text with its annotation or a name, from one place to another, where the next piece stands; the end of the line; or
 // what is no piece.
@@ -20,8 +23,9 @@ pub enum Piece {
     End,
 }
 
-// A line: a text with its first piece and the place where it ends, or a border with its annotation, the place of its segments and their number; the
-// end of the sheet; or what is no line. The next line stands where this one ends.
+// A line: a text with its first piece and the place where it ends, or a border with its annotation, the place of its segments and their number, and the
+// places where its holes begin and where they and the border end; the place of the first hanging cell, where the lines are over; the end of the sheet; or
+// what is no line. The next line stands where this one ends.
 pub enum Line {
     Text {
         first: Piece,
@@ -31,6 +35,11 @@ pub enum Line {
         annotation: u8,
         place: usize,
         length: usize,
+        holes: usize,
+        end: usize,
+    },
+    Overhang {
+        place: usize,
     },
     Broken,
     End,
@@ -70,6 +79,46 @@ pub fn piece_at(sheet: &[u8], at: usize, end: usize) -> Piece
     }
 }
 
+// The content of a B field as a border: an annotation and segments.
+fn plain_border(sheet: &[u8], start: usize, end: usize) -> Line
+    requires { ⌜ end ≤ length (now sheet) ⌝ }
+    ensures { λ r. ⌜ r ≡ plainBorder start end (now (sheet .entry)) ⌝ }
+{
+    if end <= start {
+        return Line::Broken;
+    }
+    let place = start + 1;
+    Line::Border {
+        annotation: sheet[start],
+        place,
+        length: end - place,
+        holes: end,
+        end,
+    }
+}
+
+// The content of a G field as a border: an annotation, the number of segments in two bytes, the segments, and holes.
+fn holed_border(sheet: &[u8], start: usize, end: usize) -> Line
+    requires { ⌜ (start ≤ end) × (end ≤ length (now sheet)) ⌝ }
+    ensures { λ r. ⌜ r ≡ holedBorder start end (now (sheet .entry)) ⌝ }
+{
+    if end - start < 3 {
+        return Line::Broken;
+    }
+    let count = two_at(sheet, start + 1);
+    let place = start + 3;
+    if end - place <= count {
+        return Line::Broken;
+    }
+    Line::Border {
+        annotation: sheet[start],
+        place,
+        length: count,
+        holes: place + count,
+        end,
+    }
+}
+
 // The line at a place.
 pub fn line_at(sheet: &[u8], at: usize) -> Line
     ensures { λ r. ⌜ r ≡ lineAt at (now (sheet .entry)) ⌝ }
@@ -85,18 +134,16 @@ pub fn line_at(sheet: &[u8], at: usize) -> Line
                 let first = piece_at(sheet, start, next);
                 return Line::Text { first, end: next };
             }
-            if letter != b'B' {
-                return Line::Broken;
+            if letter == b'B' {
+                return plain_border(sheet, start, next);
             }
-            if next <= start {
-                return Line::Broken;
+            if letter == b'G' {
+                return holed_border(sheet, start, next);
             }
-            let place = start + 1;
-            Line::Border {
-                annotation: sheet[start],
-                place,
-                length: next - place,
+            if letter == b'V' {
+                return Line::Overhang { place: at };
             }
+            Line::Broken
         }
         Field::Broken => Line::Broken,
         Field::End => Line::End,
@@ -112,12 +159,39 @@ pub fn line_end(sheet: &[u8], at: usize) -> usize
         Line::Text { first: _, end } => end,
         Line::Border {
             annotation: _,
-            place,
-            length,
-        } => place + length,
+            place: _,
+            length: _,
+            holes: _,
+            end,
+        } => end,
+        Line::Overhang { place: _ } => at,
         Line::Broken => at,
         Line::End => at,
     }
+}
+
+// The place behind the line at a place and all that follow it, where the hanging cells begin.
+pub fn lines_end(sheet: &[u8], at: usize) -> usize
+    ensures { λ r. ⌜ r ≡ linesEnd (length (now (sheet .entry))) at (now (sheet .entry)) ⌝ }
+{
+    let mut place = at;
+    loop {
+        let next = line_end(sheet, place);
+        if next == place {
+            return place;
+        }
+        place = next;
+    }
+}
+
+// The line at a place of a hanging cell that ends at a place.
+pub fn line_in(sheet: &[u8], at: usize, end: usize) -> Line
+    ensures { λ r. ⌜ r ≡ lineIn at end (now (sheet .entry)) ⌝ }
+{
+    if sheet.len() < end {
+        return Line::Broken;
+    }
+    line_at(&sheet[..end], at)
 }
 
 // A part of the sheet's bytes, itself; nothing where the places are not in it.

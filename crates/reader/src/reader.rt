@@ -1,14 +1,18 @@
-// A reader that holds the sheet's bytes and a position: three thin functions, each over its twin in line.rt that takes the slice and the number,
-// and functions with plain parameters above them, whose callers hold no reader.
+// A reader that holds the sheet's bytes and a position: five thin functions, each over its twin that takes the slice and the number, and functions with plain
+// parameters above them, whose callers hold no reader.
+use crate::hanging::Hanging;
+use crate::hanging::hanging_at;
+use crate::hole::Hole;
+use crate::hole::hole_at;
 use crate::line::Line;
 use crate::line::Piece;
 use crate::line::line_at;
 use crate::line::line_end;
 use crate::line::piece_at;
 ghost use mathlib.Core.Path.{_≡_};
-ghost use Rattle.reader.specs.Reading.{pieceAt, lineAt, lineEnd};
+ghost use Rattle.reader.specs.Reading.{pieceAt, lineAt, lineEnd, holeAt, hangingAt};
 
-// The sheet, and the place of a line or of a piece.
+// The sheet, and the place of a line, a piece, a hole or a hanging cell.
 pub struct Reader<'a> {
     pub sheet: &'a [u8],
     pub at: usize,
@@ -43,6 +47,20 @@ pub fn piece<'a>(r: Reader<'a>, end: usize) -> Piece
     piece_at(r.sheet, r.at, end)
 }
 
+// The hole where the reader stands, in a border that ends at a place.
+pub fn hole<'a>(r: Reader<'a>, end: usize) -> Hole
+    ensures { λ h. ⌜ h ≡ holeAt (r .entry .at) end (now (r .entry .sheet)) ⌝ }
+{
+    hole_at(r.sheet, r.at, end)
+}
+
+// The hanging cell where the reader stands.
+pub fn hanging<'a>(r: Reader<'a>) -> Hanging
+    ensures { λ v. ⌜ v ≡ hangingAt (r .entry .at) (now (r .entry .sheet)) ⌝ }
+{
+    hanging_at(r.sheet, r.at)
+}
+
 // The first line of a sheet.
 pub fn first_line(sheet: &[u8]) -> Line
     ensures { λ l. ⌜ l ≡ lineAt 5 (now (sheet .entry)) ⌝ }
@@ -62,4 +80,11 @@ pub fn piece_in(sheet: &[u8], at: usize, end: usize) -> Piece
     ensures { λ p. ⌜ p ≡ pieceAt at end (now (sheet .entry)) ⌝ }
 {
     piece(Reader { sheet, at }, end)
+}
+
+// The hole at a place of a border that ends at a place.
+pub fn hole_in(sheet: &[u8], at: usize, end: usize) -> Hole
+    ensures { λ h. ⌜ h ≡ holeAt at end (now (sheet .entry)) ⌝ }
+{
+    hole(Reader { sheet, at }, end)
 }

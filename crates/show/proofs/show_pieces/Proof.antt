@@ -40,17 +40,14 @@ loop-holds c = tt
 enum-known-piece : tie.Need-enum-known-piece Inv-loop μ-loop
 enum-known-piece c = search needs
 
-text-of-requires : tie.Need-text-of-requires Inv-loop μ-loop
-text-of-requires c κs = search needs
-
-show-text-requires : tie.Need-show-text-requires Inv-loop μ-loop
-show-text-requires c κs = search needs
+show-piece-requires : tie.Need-show-piece-requires Inv-loop μ-loop
+show-piece-requires c κs = search needs
 
 piece-in-requires : tie.Need-piece-in-requires Inv-loop μ-loop
 piece-in-requires c κs = search needs
 
 loop-less : tie.Need-loop-less Inv-loop μ-loop
-loop-less c = rw (c .piece-in .ensures, c .before .before .before .before .piece .given .1) (falls _ _ _)
+loop-less c = rw (c .piece-in .ensures, c .before .before .before .piece .given .1) (falls _ _ _)
 
 loop-again : tie.Need-loop-again Inv-loop μ-loop
 loop-again c = tt
@@ -58,17 +55,14 @@ loop-again c = tt
 enum-known-piece-2 : tie.Need-enum-known-piece-2 Inv-loop μ-loop
 enum-known-piece-2 c = search needs
 
-name-of-requires : tie.Need-name-of-requires Inv-loop μ-loop
-name-of-requires c κs = search needs
-
-show-name-requires : tie.Need-show-name-requires Inv-loop μ-loop
-show-name-requires c κs = search needs
+show-piece-requires-2 : tie.Need-show-piece-requires-2 Inv-loop μ-loop
+show-piece-requires-2 c κs = search needs
 
 piece-in-requires-2 : tie.Need-piece-in-requires-2 Inv-loop μ-loop
 piece-in-requires-2 c κs = search needs
 
 loop-less-2 : tie.Need-loop-less-2 Inv-loop μ-loop
-loop-less-2 c = rw (c .piece-in2 .ensures, c .before .before .before .before .piece2 .given .1) (falls _ _ _)
+loop-less-2 c = rw (c .piece-in2 .ensures, c .before .before .before .piece2 .given .1) (falls _ _ _)
 
 loop-again-2 : tie.Need-loop-again-2 Inv-loop μ-loop
 loop-again-2 c = tt
@@ -93,14 +87,12 @@ show-pieces-spec =
     μ-loop
     loop-holds
     enum-known-piece
-    text-of-requires
-    show-text-requires
+    show-piece-requires
     piece-in-requires
     loop-less
     loop-again
     enum-known-piece-2
-    name-of-requires
-    show-name-requires
+    show-piece-requires-2
     piece-in-requires-2
     loop-less-2
     loop-again-2

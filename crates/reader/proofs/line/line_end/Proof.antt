@@ -1,10 +1,8 @@
--- `reader::line::line_end` meets its contract: the end of the line that `line_at` finds, which for a border is a sum that fits.
+-- `reader::line::line_end` meets its contract: the end of the line that `line_at` finds.
 -- Assumes nothing.
 use mathlib.Core.Path.{_∙_, sym}
-use native.Mathlib.Omega.{arith}
 use borrow.Author.Needs.{needs}
-use denote.Ref.{now}
-use Rattle.reader.proofs.Places.{border-inside, line-end-is}
+use Rattle.reader.proofs.Places.{line-end-is}
 use Rattle.reader.proofs.line.line_end.Statement.{statement}
 use Rattle.reader.proofs.line.line_end.Tie as tie
 
@@ -17,17 +15,14 @@ enum-known-l c = search needs
 enum-known-l-2 : tie.Need-enum-known-l-2
 enum-known-l-2 c = search needs
 
-add-result : tie.Need-add-result
-add-result c =
-    let a = c .before .before .before .before .before .args in
-    let l = c .before .l2 .given .0 in
-    omega (arith, border-inside (a .at) (now (a .sheet)) (l .0) (l .1 .0) (l .1 .1 .0) (sym (c .before .before .before .line-at .ensures) ∙ c .before .l2 .given .1))
-
 enum-told : tie.Need-enum-told
 enum-told c = search needs
 
 enum-told-2 : tie.Need-enum-told-2
 enum-told-2 c = search needs
+
+enum-told-3 : tie.Need-enum-told-3
+enum-told-3 c = search needs
 
 returns : tie.Need-returns
 returns c = line-end-is _ _ _ (sym (c .before .before .before .line-at .ensures) ∙ c .before .l .given .1)
@@ -41,6 +36,9 @@ returns-3 c = line-end-is _ _ _ (sym (c .before .before .line-at .ensures) ∙ c
 returns-4 : tie.Need-returns-4
 returns-4 c = line-end-is _ _ _ (sym (c .before .before .line-at .ensures) ∙ c .enum-told2 .given .1)
 
+returns-5 : tie.Need-returns-5
+returns-5 c = line-end-is _ _ _ (sym (c .before .before .line-at .ensures) ∙ c .enum-told3 .given .1)
+
 pub line-end-spec : {M : Type 1} → statement M
 line-end-spec =
     tie.close
@@ -48,10 +46,11 @@ line-end-spec =
     line-at-requires
     enum-known-l
     enum-known-l-2
-    add-result
     enum-told
     enum-told-2
+    enum-told-3
     returns
     returns-2
     returns-3
-    returns-4)
+    returns-4
+    returns-5)

@@ -1,16 +1,16 @@
--- `show::show_border` is safe and ends. The loop's invariant: the index is at most the number of segments; the measure is what is left of them.
+-- `show::show_segments` is safe and ends. The loop's invariant: the index is at most the number of segments; the measure is what is left of them.
 -- Assumes nothing.
 use Prim.Native.Nat.{_≤_, _-_}
-use lib.ListN.{length}
 use borrow.Author.Needs.{needs}
-use Rattle.show.proofs.show_border.Statement.{statement}
-use Rattle.show.proofs.show_border.Tie as tie
+use lib.ListN.{length}
+use Rattle.show.proofs.show_segments.Statement.{statement}
+use Rattle.show.proofs.show_segments.Tie as tie
 
 abbrev Inv-loop : tie.InvT-loop
-Inv-loop annotation segments i₀ t6 t7 i = i ≤ length segments
+Inv-loop annotation segments i₀ t6 i = i ≤ length segments
 
 abbrev μ-loop : tie.MeasureT-loop
-μ-loop annotation segments i₀ t6 t7 i = length segments - i
+μ-loop annotation segments i₀ t6 i = length segments - i
 
 slice-aggregate-say : tie.Need-slice-aggregate-say Inv-loop μ-loop
 slice-aggregate-say c = search needs
@@ -57,17 +57,11 @@ loop-less c = search needs
 loop-again : tie.Need-loop-again Inv-loop μ-loop
 loop-again c = search needs
 
-slice-aggregate-say-4 : tie.Need-slice-aggregate-say-4 Inv-loop μ-loop
-slice-aggregate-say-4 c = search needs
-
-say-requires-4 : tie.Need-say-requires-4 Inv-loop μ-loop
-say-requires-4 c κs = search needs
-
 returns : tie.Need-returns Inv-loop μ-loop
 returns c = search needs
 
-pub show-border-spec : {M : Type 1} → statement M
-show-border-spec =
+pub show-segments-spec : {M : Type 1} → statement M
+show-segments-spec =
     tie.close
     (tie.spec
     Inv-loop
@@ -87,6 +81,4 @@ show-border-spec =
     add-i
     loop-less
     loop-again
-    slice-aggregate-say-4
-    say-requires-4
     returns)
