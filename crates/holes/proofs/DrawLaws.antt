@@ -44,7 +44,7 @@ pub record FitsFirst (n : ℕ) (s : List ℕ) (p l st nx : ℕ) (hs : List Hole)
   pub ends : one .place + piece-width (one .piece) ≤ n
   pub goes : Fits n s nx more
 
-ends-in : (n : ℕ) (h : Hole) → endsWithin n h ≡ true → readablePiece (h .piece) ≡ true → h .place + piece-width (h .piece) ≤ n
+pub ends-in : (n : ℕ) (h : Hole) → endsWithin n h ≡ true → readablePiece (h .piece) ≡ true → h .place + piece-width (h .piece) ≤ n
 ends-in n h e r = leb-true (h .place + piece-width (h .piece)) n (rw r at e)
 
 pub fits-first : (n : ℕ) (s : List ℕ) (at p l st nx : ℕ) (hs : List Hole) → FoundHole s at p l st nx → Fits n s at hs → FitsFirst n s p l st nx hs
@@ -119,10 +119,10 @@ begin-small b end d n to h i j k l = omega arith
 pub end-small : (end n to : ℕ) → end ≤ n + to → n < 65536 → to < 65536 → end < 2 ^ 20
 end-small end n to i k l = omega arith
 
-passed-hole : (at holes st nx : ℕ) → st ≡ at + 5 → st ≤ nx → holes ≤ at → at - holes + (nx - st) + 5 ≡ nx - holes
+pub passed-hole : (at holes st nx : ℕ) → st ≡ at + 5 → st ≤ nx → holes ≤ at → at - holes + (nx - st) + 5 ≡ nx - holes
 passed-hole at holes st nx h i j = omega arith
 
-few-next : (b c d e x end : ℕ) → b ≤ end + 2 * d → c ≤ 2 * x → d + x + 5 ≡ e → b + c ≤ end + 2 * e
+pub few-next : (b c d e x end : ℕ) → b ≤ end + 2 * d → c ≤ 2 * x → d + x + 5 ≡ e → b + c ≤ end + 2 * e
 few-next b c d e x end h i j = omega arith
 
 grown-next : (b c d e x : ℕ) → d + x + 5 ≡ e → 8 * b + 3 * d + 4 + (9 + 3 * x) ≤ 8 * (b + c) + 3 * e

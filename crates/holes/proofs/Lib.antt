@@ -2,3 +2,4 @@ pub mod ColsLaws
 pub mod OverlapLaws
 pub mod Segments
 pub mod DrawLaws
+pub mod WidthLaws

@@ -1,15 +1,13 @@
-// The columns of a hole, of pieces, and of a line that is filled.
+// The columns of a hole, of pieces, and of a border with holes.
+use fields::field::Field;
+use fields::field::field_at;
 use fields::width::text_width;
+use places::hole::HoleAt;
+use places::hole::hole_at;
 ghost use mathlib.Core.Path.{_≡_};
-ghost use Prim.Native.Nat.{_+_, _-_, _*_, _≤_, _<_};
+ghost use Prim.Native.Nat.{_+_, _-_, _*_, _^_, _≤_, _<_};
 ghost use lib.ListN.{length};
-ghost use Rattle.holes.specs.Cols.{CountsPiece};
-
-// The columns of a line's pieces, and whether it has a piece.
-pub struct LineCols {
-    pub cols: usize,
-    pub pieces: bool,
-}
+ghost use Rattle.holes.specs.Cols.{CountsPiece, CountsPieces, EndsAt};
 
 // The larger of two numbers.
 pub fn larger(a: usize, b: usize) -> usize
@@ -37,4 +35,64 @@ pub fn piece_cols(letter: u8, content: &[u8]) -> usize
         }
     }
     0
+}
+
+// The columns of a line's pieces.
+pub fn pieces_width(content: &[u8]) -> usize
+    requires { ⌜ length (now content) < 65536 ⌝ }
+    ensures { λ r. ⌜ r ≤ 2 * length (now (content .entry)) ⌝ }
+    ensures { λ r. ⌜ CountsPieces (now (content .entry)) r ⌝ }
+{
+    let mut cols: usize = 0;
+    let mut at: usize = 0;
+    loop {
+        let f = field_at(content, at);
+        match f {
+            Field::At {
+                letter,
+                start,
+                next,
+            } => {
+                cols += piece_cols(letter, &content[start..next]);
+                at = next;
+            }
+            Field::Broken => {
+                return cols;
+            }
+            Field::End => {
+                return cols;
+            }
+        }
+    }
+}
+
+// The column where the walk over a border of so many segments and its holes ends.
+pub fn walk_end(content: &[u8], holes: usize, end: usize) -> usize
+    requires { ⌜ (holes ≤ length (now content)) × (length (now content) < 65536) × (end < 2 ^ 18) ⌝ }
+    ensures { λ r. ⌜ r ≤ end + 2 * length (now (content .entry)) ⌝ }
+    ensures { λ r. ⌜ EndsAt (now (content .entry)) holes end r ⌝ }
+{
+    let mut pos: usize = 0;
+    let mut at = holes;
+    loop {
+        let h = hole_at(content, at);
+        match h {
+            HoleAt::At {
+                place,
+                letter,
+                start,
+                next,
+            } => {
+                let begin = larger(pos, smaller(place, end));
+                pos = begin + piece_cols(letter, &content[start..next]);
+                at = next;
+            }
+            HoleAt::Broken => {
+                return pos;
+            }
+            HoleAt::End => {
+                return larger(pos, end);
+            }
+        }
+    }
 }
