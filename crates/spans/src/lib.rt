@@ -1,6 +1,3 @@
-// Request 2.1, cells that span rows: its definitions, in specs, and what is proved of them. The code is in the crates above.
-
-// The most rows that a cell can span.
-pub fn most_rows() -> u8 {
-    16
-}
+// The calls on a sheet with cells that span rows, borders with holes and cells that still hang (document 02, 2.1), as definitions, with what is
+// proved of them: on inputs without these fields the answers are document 01's, an accepted answer is a sheet that passes, a span ends after its
+// rows, and the form that code follows gives the same. The code stands in the crates above.
