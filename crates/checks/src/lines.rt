@@ -1,5 +1,5 @@
 // Lines of a sheet, of a cell or of a cell that hangs: L, B and G fields (refusals 1 and 3).
-use crate::holes::holed_refusal;
+use crate::holed::holed_refusal;
 use fields::field::Field;
 use fields::field::field_at;
 use fields::field::first_of;

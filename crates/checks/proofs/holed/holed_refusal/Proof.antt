@@ -1,11 +1,11 @@
--- `holes::holed_refusal` meets its contract, case by case of its tests.
+-- `holed::holed_refusal` meets its contract, case by case of its tests.
 -- Assumes nothing.
 use mathlib.Core.Path.{sym, _∙_}
 use native.Mathlib.Omega.{arith}
 use Rattle.checks.proofs.HoleLaws.{short-holed, bare-holed, crooked-holed, right-holed}
 use borrow.Author.Needs.{needs}
-use Rattle.checks.proofs.holes.holed_refusal.Statement.{statement}
-use Rattle.checks.proofs.holes.holed_refusal.Tie as tie
+use Rattle.checks.proofs.holed.holed_refusal.Statement.{statement}
+use Rattle.checks.proofs.holed.holed_refusal.Tie as tie
 
 returns : tie.Need-returns
 returns c = short-holed _ (c .if1 .taken)

@@ -1,8 +1,8 @@
--- `holes::past_refusal` meets its contract, case by case of its test.
+-- `holed::past_refusal` meets its contract, case by case of its test.
 -- Assumes nothing.
 use Rattle.checks.proofs.HoleLaws.{past-off, past-on}
-use Rattle.checks.proofs.holes.past_refusal.Statement.{statement}
-use Rattle.checks.proofs.holes.past_refusal.Tie as tie
+use Rattle.checks.proofs.holed.past_refusal.Statement.{statement}
+use Rattle.checks.proofs.holed.past_refusal.Tie as tie
 
 returns : tie.Need-returns
 returns c = past-off _ _ (c .if1 .taken)

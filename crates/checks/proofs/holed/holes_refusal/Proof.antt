@@ -1,4 +1,4 @@
--- `holes::holes_refusal` meets its contract: the refusal so far and those of the holes left give that of all.
+-- `holed::holes_refusal` meets its contract: the refusal so far and those of the holes left give that of all.
 -- Assumes nothing.
 use Prim.Native.Nat.{_-_}
 use native.Mathlib.Omega.{arith}
@@ -11,8 +11,8 @@ use Rattle.places.specs.declared.hole.HoleAt.the-variants.{At}
 use Rattle.fields.proofs.Parts.{part-length}
 use Rattle.checks.proofs.HoleLaws.{HoleWalk, holes-start, holes-on, holes-broken, holes-end}
 use borrow.Author.Needs.{needs}
-use Rattle.checks.proofs.holes.holes_refusal.Statement.{statement}
-use Rattle.checks.proofs.holes.holes_refusal.Tie as tie
+use Rattle.checks.proofs.holed.holes_refusal.Statement.{statement}
+use Rattle.checks.proofs.holed.holes_refusal.Tie as tie
 
 abbrev Inv-loop : tie.InvT-loop
 Inv-loop content from segments at₀ worst₀ at worst = HoleWalk segments (holesRefusal segments (rawHoles (drop from content))) content at worst

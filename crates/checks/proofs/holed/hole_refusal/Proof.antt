@@ -1,4 +1,4 @@
--- `holes::hole_refusal` meets its contract: a field that does not pass, a name, a text.
+-- `holed::hole_refusal` meets its contract: a field that does not pass, a name, a text.
 -- Assumes nothing.
 use mathlib.Core.Path.{sym, _∙_}
 use native.Mathlib.Omega.{arith}
@@ -7,8 +7,8 @@ use lib.ListN.{length}
 use Prim.Native.Nat.{_≤_}
 use Rattle.checks.proofs.HoleLaws.{hole-refused, hole-name, text-size, hole-text}
 use borrow.Author.Needs.{needs}
-use Rattle.checks.proofs.holes.hole_refusal.Statement.{statement}
-use Rattle.checks.proofs.holes.hole_refusal.Tie as tie
+use Rattle.checks.proofs.holed.hole_refusal.Statement.{statement}
+use Rattle.checks.proofs.holed.hole_refusal.Tie as tie
 
 piece-refusal-requires : tie.Need-piece-refusal-requires
 piece-refusal-requires c κs = search needs
