@@ -3,3 +3,4 @@ pub mod OverlapLaws
 pub mod Segments
 pub mod DrawLaws
 pub mod WidthLaws
+pub mod LineLaws

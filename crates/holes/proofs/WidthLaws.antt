@@ -140,7 +140,7 @@ string-width b = ap text-width (sym (drawn-string b)) ∙ drawn-width false b
 string-formed : (b : List ℕ) → WellFormed (to-string b)
 string-formed b = (map (glyph false) b, ap chars (sym (drawn-string b)) ∙ drawn-chars false b)
 
-formed : (q : Piece) → readablePiece q ≡ true → WellFormedPiece q
+pub formed : (q : Piece) → readablePiece q ≡ true → WellFormedPiece q
 formed (str a t) e = readable-formed false t e
 formed (fragment n) e = tt
 
