@@ -2,8 +2,8 @@
 -- Assumes nothing.
 use mathlib.Core.Path.{_≡_, refl, sym, ap, _∙_}
 use mathlib.Core.Bool.{Bool, true, false}
-use mathlib.Core.List.{List, [], _∷_, _++_, append-assoc, append-nil}
-use Prim.Native.Nat.{ℕ, suc, _+_, _≤_, _<_}
+use mathlib.Core.List.{List, [], _∷_, _++_, append-assoc}
+use Prim.Native.Nat.{ℕ, _+_, _≤_, _<_}
 use native.Mathlib.Omega.{arith}
 use native.Mathlib.Numerals.{add-one}
 use lib.Dec.{eqb}
@@ -15,8 +15,7 @@ use Rattle.slots.specs.Seats.{SeatIs, SeatIn, SlotsIn, SlotsLeft, FoundIn, Find
 use Rattle.slots.specs.declared.seat.Seat.{Seat}
 use Rattle.slots.specs.declared.seat.Slots.{Slots}
 use Rattle.slots.specs.declared.seat.Next.the-variants.{Is, NoMore}
-use Rattle.seats.specs.Keep.{KeptSeatIn, KeptSeat, SeatsIn, slotAt, SeatsAre, KeptIn, RowKept, KeepsSeats}
-use Rattle.seats.specs.declared.keep.Kept.{Kept}
+use Rattle.seats.specs.Keep.{KeptSeatIn, KeptSeat, SeatsIn, slotAt, SeatsAre, KeptIn, KeepsSeats}
 
 -- ---- one entry more
 

@@ -1,0 +1,4 @@
+pub mod LineLaws
+pub mod MergeLaws
+pub mod JoinLaws
+pub mod BorderLaws

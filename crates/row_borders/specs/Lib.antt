@@ -1,0 +1,3 @@
+pub mod Merge
+pub mod Join
+pub mod Border
