@@ -1,0 +1,166 @@
+-- A line of the row only grows: what is pushed onto it is never shorter, so a line that is too long stays so.
+-- Assumes nothing.
+use mathlib.Core.Path.{_≡_, refl, sym, ap, _∙_}
+use mathlib.Core.Bool.{Bool, true, false, _||_, not}
+use mathlib.Core.Option.{Option, none, some, Option·map}
+use mathlib.Core.List.{List, [], _∷_, _++_}
+use Prim.Native.Nat.{ℕ, zero, suc, _+_, _-_, _*_, _≤_, _<_}
+use native.Mathlib.Omega.{arith}
+use lib.Dec.{leb, ltb, eqb}
+use lib.ListN.{length, replicate, length-append}
+use borrow.Author.Tests.{leb-true, leb-false, lt-leb, ltb-true, ltb-false}
+use Rattle.characters.specs.If.{if_then_else_}
+use Rattle.characters.specs.Utf8.{Place, fresh, inside, Step, bad, on, ends, stepByte, follow, atEnd, charsFrom, chars}
+use Rattle.characters.specs.Columns.{cols, str-width}
+use Rattle.characters.proofs.Tests.{by-if}
+use Rattle.characters.proofs.Tables.{cols-le-two}
+use Rattle.fields.specs.Field.{field}
+use Rattle.fields.specs.Sheet.{Piece, str, fragment, pieceBytes, piecesBytes}
+use Rattle.fields.specs.Widths.{widthOr, text-width, width}
+use Rattle.rows.specs.declared.RenderOptions.{RenderOptions}
+use Rattle.rows.specs.TaggedLine.{onto, join, push-str, push, consume, push-ws, pad-to}
+use Rattle.rows.specs.SubRenderer.{edge}
+use Rattle.tagged_line.proofs.Holding.{pieces-append}
+use Rattle.spans.specs.Sheet.{RenderLine, text, border, content}
+use Rattle.spans.specs.SubRenderer.{padded, into-tagged-line}
+use Rattle.spans.specs.Answer.{fits}
+use Rattle.spans.specs.Columns.{Column, addColumn}
+use Rattle.row_lines.specs.Seat.{opened}
+use Rattle.tagged_line.specs.Held.{Held}
+use Rattle.tagged_line.specs.declared.line.Line.{Line}
+use Rattle.row_lines.specs.Row.{isLong, columnsFrom}
+
+pub or-first : (a b : Bool) → (a || b) ≡ false → a ≡ false
+or-first true b e = e
+or-first false b e = refl
+
+pub or-second : (a b : Bool) → (a || b) ≡ false → b ≡ false
+or-second true b e = absurd (let z : _≡_ {A = ℕ} 0 1 = cc in omega arith)
+or-second false b e = e
+
+-- how many bytes the pieces of a line have
+abbrev pub sizeOf : List Piece → ℕ
+sizeOf l = length (piecesBytes l)
+
+size-cons : (p : Piece) (l : List Piece) → sizeOf (p ∷ l) ≡ length (pieceBytes p) + sizeOf l
+unfolding piecesBytes
+size-cons p l = length-append (pieceBytes p) (piecesBytes l)
+
+size-str : (a : ℕ) (t : List ℕ) → length (pieceBytes (str a t)) ≡ 4 + length t
+unfolding field
+size-str a t = omega (arith)
+
+size-none : sizeOf [] ≡ 0
+unfolding piecesBytes
+size-none = refl
+
+grow-onto : (p : Piece) (a : ℕ) (t : List ℕ) → length (pieceBytes p) ≤ sizeOf (onto p a t)
+grow-onto (fragment n) a t = omega (arith, size-cons (fragment n) (str a t ∷ []))
+grow-onto (str b s) a t =
+    by-if (λ (x : List Piece). length (pieceBytes (str b s)) ≤ sizeOf x) (eqb b a)
+    (λ _. omega (arith, size-cons (str b (s ++ t)) [], size-str b (s ++ t), size-str b s, length-append s t))
+    (λ _. omega (arith, size-cons (str b s) (str a t ∷ [])))
+
+grow-join : (l : List Piece) (a : ℕ) (t : List ℕ) → sizeOf l ≤ sizeOf (join l a t)
+unfolding join
+grow-join [] a t = omega (arith, size-none)
+grow-join (p ∷ []) a t = omega (arith, grow-onto p a t, size-cons p [], size-none)
+grow-join (p ∷ q ∷ l) a t = omega (arith, grow-join (q ∷ l) a t, size-cons p (q ∷ l), size-cons p (join (q ∷ l) a t))
+
+-- Text that is pushed.
+pub grow-str : (l : List Piece) (a : ℕ) (t : List ℕ) → sizeOf l ≤ sizeOf (push-str l a t)
+unfolding push-str
+grow-str l a [] = omega arith
+grow-str l a (b ∷ t) = grow-join l a (b ∷ t)
+
+grow-push : (l : List Piece) (p : Piece) → sizeOf l ≤ sizeOf (push l p)
+unfolding push
+grow-push l (str a t) = grow-str l a t
+grow-push l (fragment n) = omega (arith, ap length (pieces-append l (fragment n ∷ [])), length-append (piecesBytes l) (piecesBytes (fragment n ∷ [])))
+
+grow-consume : (l ps : List Piece) → sizeOf l ≤ sizeOf (consume l ps)
+unfolding consume
+grow-consume l [] = omega arith
+grow-consume l (p ∷ ps) = omega (arith, grow-push l p, grow-consume (push l p) ps)
+
+grow-column : (s : RenderOptions) (l : List Piece) (c : Column) (ls : List RenderLine) → sizeOf l ≤ sizeOf (addColumn s l c ls)
+grow-column s l c [] = grow-str l _ _
+grow-column s l c (text ps ∷ ls) = omega (arith, grow-consume l ps, grow-str (consume l ps) (s .annotation) (replicate (c .to - width ps) 0x20))
+grow-column s l c (border a segs hs ∷ ls) = grow-str l _ _
+
+grow-opened : (s : RenderOptions) (k : ℕ) (l : List Piece) → sizeOf l ≤ sizeOf (opened s k l)
+grow-opened s zero l = omega arith
+grow-opened s (suc k) l = grow-str l (s .annotation) (edge s)
+
+-- What columns give to it.
+pub grow-columns : (s : RenderOptions) (k : ℕ) (l : List Piece) (cs : List Column) → sizeOf l ≤ sizeOf (columnsFrom s k l cs)
+unfolding columnsFrom
+grow-columns s k l [] = omega arith
+grow-columns s k l (c ∷ cs) =
+    omega (arith, grow-opened s k l, grow-column s (opened s k l) c (c .lines), grow-columns s (suc k) (addColumn s (opened s k l) c (c .lines)) cs)
+
+-- A line that is too long does not fit, padded or not.
+pub long-unfit : (s : RenderOptions) (l : List Piece) → 65535 < sizeOf l → fits (padded s (text l)) ≡ false
+unfolding padded pad-to push-ws
+long-unfit s l h =
+    let g = grow-str l (s .annotation) (replicate (s .width - width l) 0x20) in
+    let k : 65535 < sizeOf (push-str l (s .annotation) (replicate (s .width - width l) 0x20)) = omega arith in
+    by-if (λ (x : RenderLine). fits x ≡ false) (s .pad) (λ _. lt-leb (sizeOf (push-str l (s .annotation) (replicate (s .width - width l) 0x20))) 65535 k) (λ _. lt-leb (sizeOf l) 65535 h)
+
+-- ---- columns and bytes
+
+-- a text has two columns at most for each byte
+abbrev Wide : Option (List ℕ) → ℕ → Type 0
+Wide none n = Unit {0}
+Wide (some cs) n = str-width cs ≤ 2 * n
+
+wide-more : (o : Option (List ℕ)) (n : ℕ) → Wide o n → Wide o (suc n)
+wide-more none n h = tt
+wide-more (some cs) n h = omega arith
+
+wide-char : (c : ℕ) (o : Option (List ℕ)) (n : ℕ) → Wide o n → Wide (Option·map (λ (cs : List ℕ). c ∷ cs) o) (suc n)
+unfolding str-width
+wide-char c none n h = tt
+wide-char c (some cs) n h = omega (arith, cols-le-two c)
+
+wide-follow : (x : Step) (f : Place → Option (List ℕ)) (n : ℕ) → ((q : Place) → Wide (f q) n) → Wide (follow x f) (suc n)
+wide-follow bad f n h = tt
+wide-follow (on q) f n h = wide-more (f q) n (h q)
+wide-follow (ends c) f n h = wide-char c (f fresh) n (h fresh)
+
+wide-end : (p : Place) → Wide (atEnd p) 0
+unfolding str-width
+wide-end fresh = omega arith
+wide-end (inside a b c d) = tt
+
+wide-from : (p : Place) (bs : List ℕ) → Wide (charsFrom p bs) (length bs)
+unfolding charsFrom
+wide-from p [] = wide-end p
+wide-from p (b ∷ bs) = wide-follow (stepByte p b) (λ (q : Place). charsFrom q bs) (length bs) (λ q. wide-from q bs)
+
+wide-or : (o : Option (List ℕ)) (n : ℕ) → Wide o n → widthOr o ≤ 2 * n
+wide-or none n h = omega arith
+wide-or (some cs) n h = h
+
+text-wide : (t : List ℕ) → text-width t ≤ 2 * length t
+unfolding text-width chars
+text-wide t = wide-or (charsFrom fresh t) (length t) (wide-from fresh t)
+
+-- So has a line.
+pub line-wide : (l : List Piece) → width l ≤ 2 * sizeOf l
+unfolding width
+line-wide [] = omega arith
+line-wide (str a t ∷ l) = omega (arith, text-wide t, line-wide l, size-cons (str a t) l, size-str a t)
+line-wide (fragment n ∷ l) = omega (arith, line-wide l, size-cons (fragment n) l)
+
+-- A line that is found too long is.
+pub long-size : (st : List ℕ) (l : List Piece) (out : List ℕ) (p : Line) → Held st l out p → isLong p ≡ true → 65535 < sizeOf l
+long-size st l out p h e = go (ltb 131070 (p .cols)) refl
+  where
+    go : (b : Bool) → ltb 131070 (p .cols) ≡ b → 65535 < sizeOf l
+    go true x = let y = ltb-true 131070 (p .cols) x in omega (arith, h .cols, line-wide l)
+    go false x = let y = ltb-true 65535 (p .at - p .base) (rw x at e) in omega (arith, h .place)
+
+-- One that is not is short in both.
+pub short-line : (p : Line) → isLong p ≡ false → (p .cols ≤ 131070) × (p .at - p .base ≤ 65535)
+short-line p e = (ltb-false 131070 (p .cols) (or-first (ltb 131070 (p .cols)) (ltb 65535 (p .at - p .base)) e), ltb-false 65535 (p .at - p .base) (or-second (ltb 131070 (p .cols)) (ltb 65535 (p .at - p .base)) e))

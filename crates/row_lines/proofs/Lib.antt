@@ -1,0 +1,4 @@
+pub mod SeatLaws
+pub mod Growing
+pub mod RowLaws
+pub mod StartLaws

@@ -1,0 +1,47 @@
+-- `seat::add_cell_text` meets its contract: the columns that the pieces took are theirs, and spaces fill the cell. Assumes nothing.
+use Rattle.row_lines.proofs.SeatLaws.{text-filled, text-full}
+use borrow.Author.Needs.{needs}
+use Rattle.row_lines.proofs.seat.add_cell_text.Statement.{statement}
+use Rattle.row_lines.proofs.seat.add_cell_text.Tie as tie
+
+add-pieces-requires : tie.Need-add-pieces-requires
+add-pieces-requires c κs = search needs
+
+sub-used : tie.Need-sub-used
+sub-used c = search needs
+
+sub-push-ws : tie.Need-sub-push-ws
+sub-push-ws c = search needs
+
+push-ws-requires : tie.Need-push-ws-requires
+push-ws-requires c κs = search needs
+
+same-length : tie.Need-same-length
+same-length c = search needs
+
+returns : tie.Need-returns
+returns c =
+    let e = c .before .before .before .before .before .before .before .before .add-pieces .ensures in
+    let f = c .before .before .push-ws .ensures in
+    (search needs, text-filled _ _ _ _ _ _ (e .1) (search needs) _ _ (c .before .before .before .before .before .before .before .before .before .before .before .before .args .options) _ (f .1))
+
+same-length-2 : tie.Need-same-length-2
+same-length-2 c = search needs
+
+returns-2 : tie.Need-returns-2
+returns-2 c =
+    let e = c .before .before .before .before .add-pieces .ensures in
+    (search needs, text-full _ _ _ _ _ _ (e .1) (search needs) (c .before .before .before .before .before .before .before .before .args .options) _ (c .if1 .left))
+
+pub add-cell-text-spec : {M : Type 1} → statement M
+add-cell-text-spec =
+    tie.close
+    (tie.spec
+    add-pieces-requires
+    sub-used
+    sub-push-ws
+    push-ws-requires
+    same-length
+    returns
+    same-length-2
+    returns-2)

@@ -1,0 +1,243 @@
+// The lines of a row whose seats are kept. What a function here requires, its callers in this crate show.
+use crate::seat::add_kept;
+use crate::seat::open_seat;
+use bodies::walk::past_top;
+use extend_lines::lines::Lines;
+use extend_lines::lines::add_text_line;
+use rows::RenderOptions;
+use tagged_line::line::Line;
+use tagged_line::line::new_line;
+ghost use mathlib.Core.Path.{_≡_};
+ghost use mathlib.Core.Bool.{true};
+ghost use Prim.Native.Nat.{_+_, _≤_, _<_};
+ghost use lib.ListN.{length};
+ghost use Rattle.extend_lines.specs.Emitted.{InBounds, OneLineMore, LineBegun};
+ghost use Rattle.row_lines.specs.Row.{Narrow, isLong, PassesKept, StartsSeats, LaysKept, AddsRowLine, AddsRow, AddsKeptRow};
+
+// Where the lines of a seat begin behind a first border that collapsing takes off.
+fn past_first(cells: &[u8], sheet: &[u8], hung: bool, at: usize, end: usize) -> usize
+    ensures { λ r. ⌜ PassesKept (now (cells .entry)) (now (sheet .entry)) hung at end r ⌝ }
+{
+    if hung {
+        return past_top(sheet, at, end);
+    }
+    past_top(cells, at, end)
+}
+
+// The places of the kept seats at their first lines, in a slice of them.
+fn start_seats(
+    cells: &[u8],
+    sheet: &[u8],
+    at: &mut [usize],
+    end: &[usize; 16],
+    hung: &[bool; 16],
+    collapse: bool,
+    n: usize,
+)
+    requires { ⌜ (n ≤ length (now at)) × (n ≤ 16) ⌝ }
+    ensures { λ _. ⌜ StartsSeats (now (cells .entry)) (now (sheet .entry)) (now (at .entry)) (now (end .entry)) (now (hung .entry)) collapse n (now (at .exit)) ⌝ }
+{
+    if !collapse {
+        return;
+    }
+    let mut k: usize = 0;
+    while k < n {
+        at[k] = past_first(cells, sheet, hung[k], at[k], end[k]);
+        k += 1;
+    }
+}
+
+// A line is too long for its field, by its bytes or by its columns.
+fn is_long(line: Line) -> bool
+    requires { ⌜ line .base ≤ line .at ⌝ }
+    ensures { λ r. ⌜ r ≡ isLong line ⌝ }
+{
+    if 131070 < line.cols {
+        return true;
+    }
+    65535 < line.at - line.base
+}
+
+// The kept seats on a new line, up to where it is too long; each that is passed stands one line further.
+fn lay_kept(
+    out: &mut [u8],
+    lines: Lines,
+    options: RenderOptions,
+    cells: &[u8],
+    sheet: &[u8],
+    at: &mut [usize],
+    end: &[usize; 16],
+    width: &[usize; 16],
+    to: &[usize; 16],
+    hung: &[bool; 16],
+    collapse: bool,
+    n: usize,
+) -> Line
+    requires { ⌜ InBounds lines × (n ≤ length (now at)) × (n ≤ 16) × Narrow (now width) (now to) n ⌝ }
+    ensures { λ r. ⌜ LineBegun lines r 2100000 ⌝ }
+    ensures { λ r. ⌜ LaysKept (now (out .entry)) options (now (cells .entry)) (now (sheet .entry)) (now (at .entry)) (now (end .entry)) (now (width .entry)) (now (to .entry)) (now (hung .entry)) collapse n (now (out .exit)) (now (at .exit)) r ⌝ }
+{
+    let mut line = new_line(lines.at);
+    let mut k: usize = 0;
+    while k < n {
+        if is_long(line) {
+            return line;
+        }
+        let begun = open_seat(out, line, options, k);
+        let a = add_kept(
+            out,
+            begun,
+            options,
+            cells,
+            sheet,
+            hung[k],
+            at[k],
+            end[k],
+            width[k],
+            to[k],
+            collapse,
+        );
+        line = a.line;
+        at[k] = a.next;
+        k += 1;
+    }
+    line
+}
+
+// A line that is too long is counted.
+fn too_long(lines: Lines) -> Lines
+    requires { ⌜ InBounds lines ⌝ }
+    ensures { λ r. ⌜ OneLineMore lines r × (r .long ≡ true) ⌝ }
+{
+    Lines {
+        at: lines.at,
+        count: lines.count + 1,
+        long: true,
+    }
+}
+
+// One line of the row.
+fn add_row_line(
+    out: &mut [u8],
+    lines: Lines,
+    options: RenderOptions,
+    cells: &[u8],
+    sheet: &[u8],
+    at: &mut [usize; 16],
+    end: &[usize; 16],
+    width: &[usize; 16],
+    to: &[usize; 16],
+    hung: &[bool; 16],
+    collapse: bool,
+    n: usize,
+) -> Lines
+    requires { ⌜ InBounds lines × (n ≤ 16) × Narrow (now width) (now to) n ⌝ }
+    ensures { λ r. ⌜ OneLineMore lines r ⌝ }
+    ensures { λ r. ⌜ AddsRowLine (now (out .entry)) lines options (now (cells .entry)) (now (sheet .entry)) (now (at .entry)) (now (end .entry)) (now (width .entry)) (now (to .entry)) (now (hung .entry)) collapse n (now (out .exit)) (now (at .exit)) r ⌝ }
+{
+    let line = lay_kept(
+        out,
+        lines,
+        options,
+        cells,
+        sheet,
+        at,
+        end,
+        width,
+        to,
+        hung,
+        collapse,
+        n,
+    );
+    if is_long(line) {
+        return too_long(lines);
+    }
+    add_text_line(out, lines, line, options)
+}
+
+// The lines of the row, so many; behind one that is too long they are only counted.
+pub fn add_lines(
+    out: &mut [u8],
+    lines: Lines,
+    options: RenderOptions,
+    cells: &[u8],
+    sheet: &[u8],
+    at: &mut [usize; 16],
+    end: &[usize; 16],
+    width: &[usize; 16],
+    to: &[usize; 16],
+    hung: &[bool; 16],
+    collapse: bool,
+    n: usize,
+    height: usize,
+) -> Lines
+    requires { ⌜ InBounds lines × (n ≤ 16) × Narrow (now width) (now to) n × (lines .count + height < 1000000) ⌝ }
+    ensures { λ r. ⌜ InBounds r × (r .count ≡ lines .count + height) ⌝ }
+    ensures { λ r. ⌜ AddsRow (now (out .entry)) lines options (now (cells .entry)) (now (sheet .entry)) (now (at .entry)) (now (end .entry)) (now (width .entry)) (now (to .entry)) (now (hung .entry)) collapse n height (now (out .exit)) r ⌝ }
+{
+    let mut next = lines;
+    let mut i: usize = 0;
+    while i < height {
+        if next.long {
+            return Lines {
+                at: next.at,
+                count: next.count + (height - i),
+                long: true,
+            };
+        }
+        next = add_row_line(
+            out,
+            next,
+            options,
+            cells,
+            sheet,
+            at,
+            end,
+            width,
+            to,
+            hung,
+            collapse,
+            n,
+        );
+        i += 1;
+    }
+    next
+}
+
+// The lines of a row of kept seats, from their first lines on.
+pub fn add_row(
+    out: &mut [u8],
+    lines: Lines,
+    options: RenderOptions,
+    cells: &[u8],
+    sheet: &[u8],
+    at: &mut [usize; 16],
+    end: &[usize; 16],
+    width: &[usize; 16],
+    to: &[usize; 16],
+    hung: &[bool; 16],
+    collapse: bool,
+    n: usize,
+    height: usize,
+) -> Lines
+    requires { ⌜ InBounds lines × (n ≤ 16) × Narrow (now width) (now to) n × (lines .count + height < 1000000) ⌝ }
+    ensures { λ r. ⌜ InBounds r × (r .count ≡ lines .count + height) ⌝ }
+    ensures { λ r. ⌜ AddsKeptRow (now (out .entry)) lines options (now (cells .entry)) (now (sheet .entry)) (now (at .entry)) (now (end .entry)) (now (width .entry)) (now (to .entry)) (now (hung .entry)) collapse n height (now (out .exit)) r ⌝ }
+{
+    start_seats(cells, sheet, at, end, hung, collapse, n);
+    add_lines(
+        out,
+        lines,
+        options,
+        cells,
+        sheet,
+        at,
+        end,
+        width,
+        to,
+        hung,
+        collapse,
+        n,
+        height,
+    )
+}

@@ -1,0 +1,199 @@
+// What a seat gives to a line of the row. What a function here requires, its callers in this crate show.
+use borders::draw::drawn_len;
+use fields::field::Field;
+use fields::field::field_at;
+use holes::draw::push_holed;
+use places::border::border_parts;
+use rows::RenderOptions;
+use tagged_line::line::Line;
+use tagged_line::line::push_drawn;
+use tagged_line::line::push_str;
+use tagged_line::line::push_ws;
+use tagged_line::piece::add_pieces;
+ghost use mathlib.Core.Path.{_≡_};
+ghost use Prim.Native.Nat.{_<_};
+ghost use lib.ListN.{length};
+ghost use Rattle.tagged_line.specs.Held.{Within, LineGrown};
+ghost use Rattle.row_lines.specs.Seat.{seatMost, AddedIn, AddsCellText, AddsPattern, AddsLine, leavesPattern, AddsSeat, AddsKept, AddsEdge, OpensSeat};
+
+// A line with what a seat gave to it, and the place of the seat's next line.
+pub struct Added {
+    pub line: Line,
+    pub next: usize,
+}
+
+// A text line of a seat, re-pushed and filled.
+fn add_cell_text(
+    out: &mut [u8],
+    line: Line,
+    options: RenderOptions,
+    content: &[u8],
+    to: usize,
+) -> Line
+    requires { ⌜ Within line seatMost × (length (now content) < 65536) × (to < 256) ⌝ }
+    ensures { λ r. ⌜ LineGrown line r seatMost ⌝ }
+    ensures { λ r. ⌜ AddsCellText (now (out .entry)) line options (now (content .entry)) to (now (out .exit)) r ⌝ }
+{
+    let before = line.cols;
+    let next = add_pieces(out, line, content, true, true);
+    let used = next.cols - before;
+    if used < to {
+        return push_ws(out, next, to - used, options.annotation);
+    }
+    next
+}
+
+// What fills a seat whose lines are over: the lines above the last border that was taken off it.
+fn add_pattern(
+    out: &mut [u8],
+    line: Line,
+    options: RenderOptions,
+    letter: u8,
+    content: &[u8],
+    to: usize,
+) -> Line
+    requires { ⌜ Within line seatMost × (length (now content) < 65536) × (to < 256) ⌝ }
+    ensures { λ r. ⌜ LineGrown line r seatMost ⌝ }
+    ensures { λ r. ⌜ AddsPattern (now (out .entry)) line options letter (now (content .entry)) to (now (out .exit)) r ⌝ }
+{
+    let parts = border_parts(letter, content);
+    let from = parts.segs;
+    let end = parts.holes;
+    let segs = &content[from..end];
+    let n = drawn_len(segs, true);
+    push_drawn(out, line, options.annotation, segs, n, to, true)
+}
+
+// A line of a seat: a text, or a border with its holes.
+fn add_line_of(
+    out: &mut [u8],
+    line: Line,
+    options: RenderOptions,
+    letter: u8,
+    content: &[u8],
+    to: usize,
+) -> Line
+    requires { ⌜ Within line seatMost × (length (now content) < 65536) × (to < 256) ⌝ }
+    ensures { λ r. ⌜ LineGrown line r seatMost ⌝ }
+    ensures { λ r. ⌜ AddsLine (now (out .entry)) line options letter (now (content .entry)) to (now (out .exit)) r ⌝ }
+{
+    if letter == b'L' {
+        return add_cell_text(out, line, options, content, to);
+    }
+    let parts = border_parts(letter, content);
+    push_holed(
+        out,
+        line,
+        options.annotation,
+        content,
+        parts.segs,
+        parts.holes,
+        to,
+    )
+}
+
+// A line is the last border of a seat that collapsing takes off.
+fn leaves_pattern(collapse: bool, letter: u8, next: usize, end: usize) -> bool
+    ensures { λ r. ⌜ r ≡ leavesPattern collapse letter next end ⌝ }
+{
+    if !collapse {
+        return false;
+    }
+    if next != end {
+        return false;
+    }
+    letter != b'L'
+}
+
+// What a seat gives to a line of the row, from its next line on: with collapsing a last border leaves its pattern.
+fn add_seat(
+    out: &mut [u8],
+    line: Line,
+    options: RenderOptions,
+    s: &[u8],
+    at: usize,
+    end: usize,
+    width: usize,
+    to: usize,
+    collapse: bool,
+) -> Added
+    requires { ⌜ Within line seatMost × (width < 65791) × (to < 256) ⌝ }
+    ensures { λ r. ⌜ AddedIn line at r ⌝ }
+    ensures { λ r. ⌜ AddsSeat (now (out .entry)) line options (now (s .entry)) at end width to collapse (now (out .exit)) r ⌝ }
+{
+    if end <= at {
+        return Added {
+            line: push_ws(out, line, width, options.annotation),
+            next: at,
+        };
+    }
+    let f = field_at(s, at);
+    match f {
+        Field::At {
+            letter,
+            start,
+            next,
+        } => {
+            if leaves_pattern(collapse, letter, next, end) {
+                return Added {
+                    line: add_pattern(out, line, options, letter, &s[start..next], to),
+                    next: at,
+                };
+            }
+            Added {
+                line: add_line_of(out, line, options, letter, &s[start..next], to),
+                next,
+            }
+        }
+        Field::Broken => Added { line, next: at },
+        Field::End => Added { line, next: at },
+    }
+}
+
+// The same of a seat whose lines are in the sheet, if it hung, or else in the cells.
+pub fn add_kept(
+    out: &mut [u8],
+    line: Line,
+    options: RenderOptions,
+    cells: &[u8],
+    sheet: &[u8],
+    hung: bool,
+    at: usize,
+    end: usize,
+    width: usize,
+    to: usize,
+    collapse: bool,
+) -> Added
+    requires { ⌜ Within line seatMost × (width < 65791) × (to < 256) ⌝ }
+    ensures { λ r. ⌜ AddedIn line at r ⌝ }
+    ensures { λ r. ⌜ AddsKept (now (out .entry)) line options (now (cells .entry)) (now (sheet .entry)) hung at end width to collapse (now (out .exit)) r ⌝ }
+{
+    if hung {
+        return add_seat(out, line, options, sheet, at, end, width, to, collapse);
+    }
+    add_seat(out, line, options, cells, at, end, width, to, collapse)
+}
+
+// Between two seats: │, or a space with borders off.
+fn add_edge(out: &mut [u8], line: Line, options: RenderOptions) -> Line
+    requires { ⌜ Within line 16 ⌝ }
+    ensures { λ r. ⌜ LineGrown line r 16 ⌝ }
+    ensures { λ r. ⌜ AddsEdge (now (out .entry)) line options (now (out .exit)) r ⌝ }
+{
+    if options.borders {
+        return push_str(out, line, options.annotation, b"\xE2\x94\x82", 1);
+    }
+    push_str(out, line, options.annotation, b" ", 1)
+}
+
+// Before the k-th seat stands an edge, unless it is the first.
+pub fn open_seat(out: &mut [u8], line: Line, options: RenderOptions, k: usize) -> Line
+    requires { ⌜ Within line 16 ⌝ }
+    ensures { λ r. ⌜ LineGrown line r 16 ⌝ }
+    ensures { λ r. ⌜ OpensSeat (now (out .entry)) line options k (now (out .exit)) r ⌝ }
+{
+    if k == 0 {
+        return line;
+    }
+    add_edge(out, line, options)
+}
