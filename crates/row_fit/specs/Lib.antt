@@ -1,0 +1,3 @@
+pub mod Cols
+pub mod Seat
+pub mod Row
