@@ -1,0 +1,3 @@
+// The lines that come where the border below a row is (request 2.1): as cuts in the border, as holes of a G field, or as text.
+pub mod line;
+pub mod pieces;
