@@ -1,3 +1,3 @@
 pub mod SeatLaws
 pub mod RowLaws
-pub mod ColsLaws
+pub mod FitLaws

@@ -24,19 +24,20 @@ use Rattle.rows.proofs.Reading.{OnSome, some-of}
 use Rattle.rows.proofs.Lines.{spaces-width}
 use Rattle.spans.specs.Sheet.{RenderLine, text, border, readBorder, readLine, readableLine, readableLines}
 use Rattle.spans.specs.SubRenderer.{isBorder}
-use Rattle.spans.specs.Columns.{Column, overlaps, tooWide, nextColumn, columnMisfit}
+use Rattle.spans.specs.Columns.{Slot, Column, columnOf, overlaps, tooWide, nextColumn, columnMisfit}
 use Rattle.spans.specs.Places.{LinesAt}
 use Rattle.places.specs.Border.{PartsIn, FindsParts}
 use Rattle.places.specs.declared.border.Parts.{Parts}
+use Rattle.holes.specs.declared.cols.LineCols.{LineCols}
+use Rattle.holes.specs.Cols.{CountsLine}
 use Rattle.holes.specs.Overlap.{FindsOverlap}
-use Rattle.bodies.specs.Body.{BottomAt}
+use Rattle.bodies.specs.Body.{BottomAt, FindsBody}
+use Rattle.bodies.specs.declared.body.Body.{Body}
 use Rattle.bodies.specs.Walk.{SkipsTo}
 use Rattle.bodies.proofs.FieldLaws.{part-part, FoundAt, found-at}
 use Rattle.bodies.proofs.LineLaws.{no-lines, first-line, line-broken, line-end}
-use Rattle.bodies.proofs.BodyLaws.{line-border, readable-drop}
-use Rattle.row_fit.specs.declared.cols.LineCols.{LineCols}
-use Rattle.row_fit.specs.Cols.{CountsLine}
-use Rattle.row_fit.specs.Seat.{CountsThrough, lineOverlaps, anyOverlaps, LineCrosses, LinesCross, lastJoin, FindsJoin}
+use Rattle.bodies.proofs.BodyLaws.{line-border, column-readable, readable-drop}
+use Rattle.row_fit.specs.Seat.{CountsThrough, lineOverlaps, anyOverlaps, LineCrosses, LinesCross, lastJoin, FindsJoin, FindsFit}
 
 -- ---- a line that cannot be drawn
 
@@ -331,7 +332,7 @@ unfolding width
 through-none s at end to w height p f h o c et ew l r =
     let e : drop height (c .lines) ≡ [] = no-lines s p end (drop height (c .lines)) h (f (c .lines) l) in
     let n : w ≡ text-width (replicate (c .width) 0x20) + 0 = sym ew ∙ omega (arith, spaces-width (c .width)) in
-    rw e (record { cols-are = n; pieces-are = refl })
+    rw e (record { cols = n; pieces = refl })
 
 -- A line that is there.
 pub through-line : (s : List ℕ) (at end to w height p letter start next : ℕ) (r : LineCols) → SkipsTo s at end height p → p < end
@@ -341,7 +342,7 @@ through-line s at end to w height p l st nx r f h e k o c et ew ls ok =
     let q = first-line s p end l st nx (drop height (c .lines)) h e (f (c .lines) ls) in
     let d = readable-drop height (c .lines) ok in
     let g = and-left (readableLine (q .one)) (readableLines (q .more)) (rw (q .are) at d) in
-    rw (q .are, et) (k o (q .one) (q .reads) g)
+    rw (q .are, et) (k (q .one) o (q .reads) g)
 
 pub through-broken : (s : List ℕ) (at end to w height p : ℕ) (r : LineCols) → SkipsTo s at end height p → p < end → fieldAt p (drop p s) ≡ Broken
     → CountsThrough s at end to w height r
@@ -350,3 +351,75 @@ through-broken s at end to w height p r f h e o c et ew ls ok = absurd (line-bro
 pub through-ended : (s : List ℕ) (at end to w height p : ℕ) (r : LineCols) → SkipsTo s at end height p → p < end → fieldAt p (drop p s) ≡ End
     → CountsThrough s at end to w height r
 through-ended s at end to w height p r f h e o c et ew ls ok = absurd (line-end s p end _ h (f (c .lines) ls) e)
+
+-- ---- one seat
+
+column-to : (collapse : Bool) (x : Slot) → columnOf collapse x .to ≡ x .to
+unfolding columnOf
+column-to false x = refl
+column-to true x = refl
+
+pub column-width : (collapse : Bool) (x : Slot) → columnOf collapse x .width ≡ x .width
+unfolding columnOf
+column-width false x = refl
+column-width true x = refl
+
+column-span : (collapse : Bool) (x : Slot) → columnOf collapse x .span ≡ x .span
+unfolding columnOf
+column-span false x = refl
+column-span true x = refl
+
+-- what is found of a seat's lines and of its last border
+pub record Lined (s : List ℕ) (at end to w : ℕ) (collapse : Bool) (total height : ℕ) (b : Body) (misfit : Bool) (join : ℕ) : Type 0 where
+  pub body : FindsBody s at end collapse b
+  pub wide : Bool
+  pub crossed : Bool
+  pub wide-is : wide ≡ (ltb (b .count) height && (leb (b .stop) (b .end) && ltb total w))
+  pub crosses : LinesCross s (b .at) (b .end) height to crossed
+  pub either-is : misfit ≡ (wide || crossed)
+  pub joins : FindsJoin s (b .end) (b .stop) join
+
+misfit-of : (s : List ℕ) (at end to w : ℕ) (collapse : Bool) (total height : ℕ) (b : Body) (misfit : Bool) (join : ℕ)
+    → Lined s at end to w collapse total height b misfit join → (x : Slot) → x .to ≡ to → x .width ≡ w → LinesAt s at end (x .lines)
+    → misfit ≡ columnMisfit total height (columnOf collapse x)
+misfit-of s at end to w collapse total height b misfit join q x et ew l =
+    let c = columnOf collapse x in
+    let i = q .body x l in
+    let cw : w ≡ c .width = sym (column-width collapse x ∙ ew) in
+    let ct : to ≡ c .to = sym (column-to collapse x ∙ et) in
+    let e : q .wide ≡ (ltb (length (c .lines)) height && tooWide total (c .width) (c .bottom)) =
+    q .wide-is ∙ ap₂ (λ (n : ℕ) (t : Bool). ltb n height && t) (i .count-is)
+    (wide-test s (b .end) (b .stop) total w (c .bottom) (i .bottom-at) ∙ ap (λ (n : ℕ). tooWide total n (c .bottom)) cw) in
+    let f : q .crossed ≡ anyOverlaps (c .to) height (c .lines) = q .crosses (c .lines) (i .lines-at) ∙ ap (λ (n : ℕ). anyOverlaps n height (c .lines)) ct in
+    q .either-is ∙ ap₂ (λ (t u : Bool). t || u) e f ∙ sym (misfit-split total height c)
+
+-- A seat that does not hang on.
+pub fit-ends : (s : List ℕ) (at end to w span : ℕ) (collapse : Bool) (total height : ℕ) (b : Body) (misfit : Bool) (join : ℕ)
+    → Lined s at end to w collapse total height b misfit join → span ≤ 1
+    → FindsFit s at end to w span collapse total height (record { misfit = misfit; join = join; hole = false; cols = 0 })
+unfolding width
+fit-ends s at end to w span collapse total height b misfit join q h o x et ew es l ok =
+    let c = columnOf collapse x in
+    let z : ltb 1 (c .span) ≡ false = le-ltb 1 (c .span) (omega (arith, column-span collapse x, es, h)) in
+    record {
+      misfit-is = misfit-of s at end to w collapse total height b misfit join q x et ew l;
+      join-is = q .joins (c .bottom) (q .body x l .bottom-at);
+      hole-is = rw z;
+      cols-is = rw z;
+    }
+
+-- A seat that does.
+pub fit-hangs : (s : List ℕ) (at end to w span : ℕ) (collapse : Bool) (total height : ℕ) (b : Body) (misfit : Bool) (join : ℕ) (t : LineCols)
+    → Lined s at end to w collapse total height b misfit join → 1 < span → CountsThrough s (b .at) (b .end) to w height t
+    → FindsFit s at end to w span collapse total height (record { misfit = misfit; join = join; hole = t .pieces; cols = t .cols })
+fit-hangs s at end to w span collapse total height b misfit join t q h k o x et ew es l ok =
+    let c = columnOf collapse x in
+    let i = q .body x l in
+    let z : ltb 1 (c .span) ≡ true = lt-ltb 1 (c .span) (omega (arith, column-span collapse x, es, h)) in
+    let n = k o c (column-to collapse x ∙ et) (column-width collapse x ∙ ew) (i .lines-at) (column-readable collapse x ok) in
+    record {
+      misfit-is = misfit-of s at end to w collapse total height b misfit join q x et ew l;
+      join-is = q .joins (c .bottom) (i .bottom-at);
+      hole-is = rw z (n .pieces);
+      cols-is = rw z (n .cols);
+    }

@@ -1,3 +1,2 @@
-pub mod Cols
 pub mod Seat
 pub mod Row

@@ -18,8 +18,8 @@ use Rattle.spans.specs.Sheet.{RenderLine, text, border, readLine, readableLines
 use Rattle.spans.specs.Columns.{Slot, Column, columnOf, bottomOf, overlaps, columnMisfit, throughOf}
 use Rattle.spans.specs.Places.{LinesAt}
 use Rattle.bodies.specs.Body.{BottomAt}
-use Rattle.row_fit.specs.declared.cols.LineCols.{LineCols}
-use Rattle.row_fit.specs.Cols.{Counts}
+use Rattle.holes.specs.declared.cols.LineCols.{LineCols}
+use Rattle.holes.specs.Cols.{Counts}
 use Rattle.row_fit.specs.declared.seat.SeatFit.{SeatFit}
 
 -- ---- lines that cannot be drawn

@@ -1,11 +1,12 @@
 // What one seat has to do with refusal 10.
-use crate::cols::LineCols;
-use crate::cols::line_cols;
+use bodies::body::body_of;
 use bodies::walk::skip_lines;
 use borders::segment::joins_above;
 use fields::field::Field;
 use fields::field::field_at;
+use holes::cols::LineCols;
 use holes::cols::larger;
+use holes::cols::line_cols;
 use holes::overlap::overlaps;
 use places::border::border_parts;
 ghost use mathlib.Core.Path.{_≡_};
@@ -15,7 +16,7 @@ ghost use lib.Dec.{leb, ltb};
 ghost use lib.ListN.{length};
 ghost use Rattle.characters.specs.If.{if_then_else_};
 ghost use Rattle.borders.specs.BorderSegHoriz.{joinsAbove};
-ghost use Rattle.row_fit.specs.Seat.{lastJoin, FindsJoin, LineCrosses, LinesCross, CountsThrough};
+ghost use Rattle.row_fit.specs.Seat.{lastJoin, FindsJoin, LineCrosses, LinesCross, CountsThrough, FitIn, FindsFit};
 
 // Whether a line of the seat cannot be drawn; how far the last border that was taken off it joins the border below; whether it leaves a
 // hole there, and how many columns the line has that comes where the border is.
@@ -176,4 +177,42 @@ pub fn either(a: bool, b: bool) -> bool
     ensures { λ r. ⌜ r ≡ (a || b) ⌝ }
 {
     a || b
+}
+
+// What one seat has to do with refusal 10, height lines down.
+pub fn seat_fit(
+    s: &[u8],
+    at: usize,
+    end: usize,
+    to: usize,
+    width: usize,
+    span: usize,
+    collapse: bool,
+    total: usize,
+    height: usize,
+) -> SeatFit
+    requires { ⌜ (at ≤ end) × (to < 65536) × (width < 2 ^ 20) ⌝ }
+    ensures { λ r. ⌜ FitIn r ⌝ }
+    ensures { λ r. ⌜ FindsFit (now (s .entry)) at end to width span collapse total height r ⌝ }
+{
+    let b = body_of(s, at, end, collapse);
+    let wide = too_wide(b.count, height, b.end, b.stop, total, width);
+    let crossed = lines_overlap(s, b.at, b.end, height, to);
+    let misfit = either(wide, crossed);
+    let join = bottom_join(s, b.end, b.stop);
+    if span <= 1 {
+        return SeatFit {
+            misfit,
+            join,
+            hole: false,
+            cols: 0,
+        };
+    }
+    let t = through_cols(s, b.at, b.end, to, width, height);
+    SeatFit {
+        misfit,
+        join,
+        hole: t.pieces,
+        cols: t.cols,
+    }
 }

@@ -39,7 +39,7 @@ enum-told-2 : tie.Need-enum-told-2
 enum-told-2 c = search needs
 
 returns-2 : tie.Need-returns-2
-returns-2 c = (c .line-cols .ensures .0, through-line _ (c .before .before .before .before .before .before .before .before .before .args .at) (c .before .before .before .before .before .before .before .before .before .args .end) (c .before .before .before .before .before .before .before .before .before .args .to) (c .before .before .before .before .before .before .before .before .before .args .width) (c .before .before .before .before .before .before .before .before .before .args .height) (c .before .before .before .before .before .before .before .skip-lines .result) _ _ _ (c .line-cols .result) (c .before .before .before .before .before .before .before .skip-lines .ensures .1) (c .before .before .before .before .before .before .if1 .left) (sym (c .before .before .before .before .before .field-at .ensures .0) ∙ c .before .before .before .f .given .1) (c .line-cols .ensures .1))
+returns-2 c = (omega (arith, c .line-cols .ensures .0), through-line _ (c .before .before .before .before .before .before .before .before .before .args .at) (c .before .before .before .before .before .before .before .before .before .args .end) (c .before .before .before .before .before .before .before .before .before .args .to) (c .before .before .before .before .before .before .before .before .before .args .width) (c .before .before .before .before .before .before .before .before .before .args .height) (c .before .before .before .before .before .before .before .skip-lines .result) _ _ _ (c .line-cols .result) (c .before .before .before .before .before .before .before .skip-lines .ensures .1) (c .before .before .before .before .before .before .if1 .left) (sym (c .before .before .before .before .before .field-at .ensures .0) ∙ c .before .before .before .f .given .1) (c .line-cols .ensures .1))
 
 returns-3 : tie.Need-returns-3
 returns-3 c = (search needs, through-broken _ (c .before .before .before .before .before .before .args .at) (c .before .before .before .before .before .before .args .end) (c .before .before .before .before .before .before .args .to) (c .before .before .before .before .before .before .args .width) (c .before .before .before .before .before .before .args .height) (c .before .before .before .before .skip-lines .result) _ (c .before .before .before .before .skip-lines .ensures .1) (c .before .before .before .if1 .left) (sym (c .before .before .field-at .ensures .0) ∙ c .enum-told .given .1))
