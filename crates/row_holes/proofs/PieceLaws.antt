@@ -210,7 +210,7 @@ pub put-none : (out : List ℕ) (place : ℕ) → HolesPut out place [] out plac
 unfolding holesBytes
 put-none out place = record { size = omega arith; bytes = λ _ _. refl }
 
-holes-append : (hs ks : List Hole) → holesBytes (hs ++ ks) ≡ holesBytes hs ++ holesBytes ks
+pub holes-append : (hs ks : List Hole) → holesBytes (hs ++ ks) ≡ holesBytes hs ++ holesBytes ks
 unfolding holesBytes
 holes-append [] ks = refl
 holes-append (h ∷ hs) ks =

@@ -246,7 +246,7 @@ found-in s p end r l st nx e sh g h k = (field-is s p l st nx (omega arith) (sym
 -- ---- one seat
 
 -- holes have more bytes than their pieces
-holes-longer : (pos : ℕ) (ps : List Piece) → length (piecesBytes ps) ≤ length (holesBytes (punch pos ps))
+pub holes-longer : (pos : ℕ) (ps : List Piece) → length (piecesBytes ps) ≤ length (holesBytes (punch pos ps))
 unfolding punch piecesBytes holesBytes
 holes-longer pos [] = omega arith
 holes-longer pos (p ∷ ps) =
