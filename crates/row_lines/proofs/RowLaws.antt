@@ -33,7 +33,7 @@ use Rattle.row_lines.proofs.Growing.{or-first, or-second, sizeOf, grow-
 -- ---- a line of the row
 
 -- after the first column their number does not matter
-columns-later : (s : RenderOptions) (j k : ℕ) (l : List Piece) (cs : List Column) → columnsFrom s (suc j) l cs ≡ columnsFrom s (suc k) l cs
+pub columns-later : (s : RenderOptions) (j k : ℕ) (l : List Piece) (cs : List Column) → columnsFrom s (suc j) l cs ≡ columnsFrom s (suc k) l cs
 unfolding columnsFrom
 columns-later s j k l [] = refl
 columns-later s j k l (c ∷ cs) = columns-later s (suc j) (suc k) (addColumn s (opened s (suc j) l) c (c .lines)) cs
@@ -233,7 +233,7 @@ line-added out mid out′ ats ats′ p r s cells sheet ends widths tos hungs col
       moved = λ _. t .moved e;
     }
 
-or-true : (a : Bool) → (a || true) ≡ true
+pub or-true : (a : Bool) → (a || true) ≡ true
 or-true true = refl
 or-true false = refl
 
@@ -254,16 +254,16 @@ line-long out mid ats ats′ p r s cells sheet ends widths tos hungs collapse n 
 
 -- ---- all lines of the row
 
-lines-count : (s : RenderOptions) (m : ℕ) (cs : List Column) → length (columnLines s m cs) ≡ m
+pub lines-count : (s : RenderOptions) (m : ℕ) (cs : List Column) → length (columnLines s m cs) ≡ m
 unfolding columnLines
 lines-count s zero cs = refl
 lines-count s (suc m) cs = ap suc (lines-count s m (map nextColumn cs))
 
-lines-first : (s : RenderOptions) (m : ℕ) (cs : List Column) → columnLines s (suc m) cs ≡ text (columnLine s [] cs) ∷ columnLines s m (map nextColumn cs)
+pub lines-first : (s : RenderOptions) (m : ℕ) (cs : List Column) → columnLines s (suc m) cs ≡ text (columnLine s [] cs) ∷ columnLines s m (map nextColumn cs)
 unfolding columnLines
 lines-first s m cs = refl
 
-misfit-first : (total m : ℕ) (cs : List Column) → linesMisfit total (suc m) cs ≡ false → (lineMisfit total cs ≡ false) × (linesMisfit total m (map nextColumn cs) ≡ false)
+pub misfit-first : (total m : ℕ) (cs : List Column) → linesMisfit total (suc m) cs ≡ false → (lineMisfit total cs ≡ false) × (linesMisfit total m (map nextColumn cs) ≡ false)
 unfolding linesMisfit
 misfit-first total m cs e = (or-first (lineMisfit total cs) (linesMisfit total m (map nextColumn cs)) e, or-second (lineMisfit total cs) (linesMisfit total m (map nextColumn cs)) e)
 
@@ -277,7 +277,7 @@ unfit-more [] ms e = absurd (let z : _≡_ {A = ℕ} 0 1 = cc in omega arith)
 unfit-more (l ∷ ls) ms e = both-unfit (fits l) (all fits ls) (all fits (ls ++ ms)) (λ x. unfit-more ls ms x) e
 
 -- Behind a line that is too long the others only count.
-long-more : (st : List ℕ) (ls ms : List RenderLine) (out : List ℕ) (q r : Lines) → Emitted st ls [] out q → q .long ≡ true → r .long ≡ true → r .count ≡ q .count + length ms
+pub long-more : (st : List ℕ) (ls ms : List RenderLine) (out : List ℕ) (q r : Lines) → Emitted st ls [] out q → q .long ≡ true → r .long ≡ true → r .count ≡ q .count + length ms
     → Emitted st (ls ++ ms) [] out r
 unfolding all
 long-more st ls ms out q r e long rlong count =

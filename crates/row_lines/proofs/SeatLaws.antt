@@ -152,13 +152,13 @@ border-line out out′ p r s letter content to q d f g (border a segs hs) e ok f
 -- ---- a seat
 
 -- no lines are left, and no border was taken off
-none-left : (collapse : Bool) (ms : List RenderLine) (c : Column) → ms ≡ [] → Collapsed collapse ms c → (c .lines ≡ []) × (c .bottom ≡ none)
+pub none-left : (collapse : Bool) (ms : List RenderLine) (c : Column) → ms ≡ [] → Collapsed collapse ms c → (c .lines ≡ []) × (c .bottom ≡ none)
 unfolding withoutBottom bottom
 none-left false ms c e k = (k .0 ∙ e, k .1)
 none-left true ms c e k = (k .0 ∙ ap withoutBottom e, k .1 ∙ ap bottom e)
 
 -- a column without lines has none after that
-stays : (collapse : Bool) (ms : List RenderLine) (c : Column) → c .lines ≡ [] → Collapsed collapse ms c → Collapsed collapse ms (nextColumn c)
+pub stays : (collapse : Bool) (ms : List RenderLine) (c : Column) → c .lines ≡ [] → Collapsed collapse ms c → Collapsed collapse ms (nextColumn c)
 unfolding nextColumn
 stays false ms c e k = (ap rest e ∙ sym e ∙ k .0, k .1)
 stays true ms c e k = (ap rest e ∙ sym e ∙ k .0, k .1)
@@ -173,12 +173,12 @@ first-stays (text ps) (k ∷ more) f = (refl, refl)
 first-stays (border a segs hs) (k ∷ more) f = (refl, refl)
 
 -- the first line of a column, and the column behind it
-record FirstOf (collapse : Bool) (g : RenderLine) (more : List RenderLine) (c : Column) : Type 0 where
-  tail : List RenderLine
-  are : c .lines ≡ g ∷ tail
-  goes : Collapsed collapse more (nextColumn c)
+pub record FirstOf (collapse : Bool) (g : RenderLine) (more : List RenderLine) (c : Column) : Type 0 where
+  pub tail : List RenderLine
+  pub are : c .lines ≡ g ∷ tail
+  pub goes : Collapsed collapse more (nextColumn c)
 
-first-of : (collapse : Bool) (g : RenderLine) (ms more : List RenderLine) (c : Column) → ms ≡ g ∷ more → (collapse ≡ true → more ≡ [] → isBorder g ≡ false)
+pub first-of : (collapse : Bool) (g : RenderLine) (ms more : List RenderLine) (c : Column) → ms ≡ g ∷ more → (collapse ≡ true → more ≡ [] → isBorder g ≡ false)
     → Collapsed collapse ms c → FirstOf collapse g more c
 unfolding nextColumn
 first-of false g ms more c e f k = let x : c .lines ≡ g ∷ more = k .0 ∙ e in record { tail = more; are = x; goes = (ap rest x, k .1) }
@@ -197,7 +197,7 @@ fits-first total c (text ps) tail = refl
 fits-first total c (border a segs hs) tail = refl
 
 -- a line is a last border that is taken off
-taken-off : (collapse : Bool) (letter next end : ℕ) → leavesPattern collapse letter next end ≡ true → (collapse ≡ true) × (next ≡ end) × (letter ≡ 0x4C → ⊥)
+pub taken-off : (collapse : Bool) (letter next end : ℕ) → leavesPattern collapse letter next end ≡ true → (collapse ≡ true) × (next ≡ end) × (letter ≡ 0x4C → ⊥)
 taken-off collapse letter next end e =
     let x = and-left (collapse && eqb next end) (not (eqb letter 0x4C)) e in
     let y = and-right (collapse && eqb next end) (not (eqb letter 0x4C)) e in
@@ -207,7 +207,7 @@ taken-off collapse letter next end e =
     bad k = let z : _≡_ {A = ℕ} 0 1 = cc in omega arith
 
 -- or it is none: a line that ends the seat's lines is a text
-stays-on : (collapse : Bool) (letter next end : ℕ) → leavesPattern collapse letter next end ≡ false → collapse ≡ true → next ≡ end → letter ≡ 0x4C
+pub stays-on : (collapse : Bool) (letter next end : ℕ) → leavesPattern collapse letter next end ≡ false → collapse ≡ true → next ≡ end → letter ≡ 0x4C
 stays-on collapse letter next end e k n = go (eqb letter 0x4C) refl
   where
     go : (b : Bool) → eqb letter 0x4C ≡ b → letter ≡ 0x4C
@@ -215,18 +215,18 @@ stays-on collapse letter next end e k n = go (eqb letter 0x4C) refl
     go false x = absurd (let y : true ≡ false = sym (rw (k, eq-eqb next end n, x)) ∙ e in let z : _≡_ {A = ℕ} 0 1 = cc in omega arith)
 
 -- a border, by its parts
-border-of : (g : RenderLine) → isBorder g ≡ true → (a : ℕ) × (segs : List ℕ) × (hs : List Hole) × (g ≡ border a segs hs)
+pub border-of : (g : RenderLine) → isBorder g ≡ true → (a : ℕ) × (segs : List ℕ) × (hs : List Hole) × (g ≡ border a segs hs)
 border-of (text ps) e = absurd (let z : _≡_ {A = ℕ} 0 1 = cc in omega arith)
 border-of (border a segs hs) e = (a, segs, hs, refl)
 
 -- a last border that is alone is taken off
-alone-off : (ms : List RenderLine) (c : Column) (a : ℕ) (segs : List ℕ) (hs : List Hole) → ms ≡ border a segs hs ∷ [] → Collapsed true ms c
+pub alone-off : (ms : List RenderLine) (c : Column) (a : ℕ) (segs : List ℕ) (hs : List Hole) → ms ≡ border a segs hs ∷ [] → Collapsed true ms c
     → (c .lines ≡ []) × (c .bottom ≡ some segs)
 unfolding withoutBottom bottom
 alone-off ms c a segs hs e k = (k .0 ∙ ap withoutBottom e, k .1 ∙ ap bottom e)
 
 -- lines that passed refusal 3
-readable-first : (g : RenderLine) (ms more : List RenderLine) → ms ≡ g ∷ more → readableLines ms ≡ true → (readableLine g ≡ true) × (readableLines more ≡ true)
+pub readable-first : (g : RenderLine) (ms more : List RenderLine) → ms ≡ g ∷ more → readableLines ms ≡ true → (readableLine g ≡ true) × (readableLines more ≡ true)
 unfolding readableLines all
 readable-first g ms more e k =
     let x : readableLines (g ∷ more) ≡ true = sym (ap readableLines e) ∙ k in

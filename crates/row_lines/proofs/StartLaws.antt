@@ -20,7 +20,7 @@ use Rattle.seats.specs.Keep.{KeptSeat, slotAt}
 use Rattle.row_lines.specs.Seat.{LeftAt}
 use Rattle.row_lines.specs.Row.{columnAt, ColumnsAt, PassesKept, StartsSeats}
 
-readable-top : (ls : List RenderLine) → readableLines ls ≡ true → readableLines (withoutTop ls) ≡ true
+pub readable-top : (ls : List RenderLine) → readableLines ls ≡ true → readableLines (withoutTop ls) ≡ true
 unfolding readableLines all
 readable-top [] h = refl
 readable-top (text ps ∷ ls) h = h

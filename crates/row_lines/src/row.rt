@@ -48,7 +48,7 @@ fn start_seats(
 }
 
 // A line is too long for its field, by its bytes or by its columns.
-fn is_long(line: Line) -> bool
+pub fn is_long(line: Line) -> bool
     requires { ⌜ line .base ≤ line .at ⌝ }
     ensures { λ r. ⌜ r ≡ isLong line ⌝ }
 {
@@ -59,7 +59,7 @@ fn is_long(line: Line) -> bool
 }
 
 // The kept seats on a new line, up to where it is too long; each that is passed stands one line further.
-fn lay_kept(
+pub fn lay_kept(
     out: &mut [u8],
     lines: Lines,
     options: RenderOptions,
@@ -105,7 +105,7 @@ fn lay_kept(
 }
 
 // A line that is too long is counted.
-fn too_long(lines: Lines) -> Lines
+pub fn too_long(lines: Lines) -> Lines
     requires { ⌜ InBounds lines ⌝ }
     ensures { λ r. ⌜ OneLineMore lines r × (r .long ≡ true) ⌝ }
 {

@@ -93,7 +93,7 @@ fn add_line_of(
 }
 
 // A line is the last border of a seat that collapsing takes off.
-fn leaves_pattern(collapse: bool, letter: u8, next: usize, end: usize) -> bool
+pub fn leaves_pattern(collapse: bool, letter: u8, next: usize, end: usize) -> bool
     ensures { λ r. ⌜ r ≡ leavesPattern collapse letter next end ⌝ }
 {
     if !collapse {
@@ -106,7 +106,7 @@ fn leaves_pattern(collapse: bool, letter: u8, next: usize, end: usize) -> bool
 }
 
 // What a seat gives to a line of the row, from its next line on: with collapsing a last border leaves its pattern.
-fn add_seat(
+pub fn add_seat(
     out: &mut [u8],
     line: Line,
     options: RenderOptions,

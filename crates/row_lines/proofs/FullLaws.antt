@@ -1,0 +1,230 @@
+-- Laws of the lines of a row of any number of seats.
+-- Assumes nothing.
+use mathlib.Core.Path.{_≡_, refl, sym, ap, subst, _∙_}
+use mathlib.Core.Bool.{Bool, true, false, _||_}
+use mathlib.Core.List.{List, [], _∷_, _++_, map, append-nil, append-assoc}
+use Prim.Native.Nat.{ℕ, suc, _+_, _-_, _≤_, _<_}
+use native.Mathlib.Omega.{arith}
+use lib.ListN.{length, length-map}
+use Rattle.fields.specs.Sheet.{Piece}
+use Rattle.rows.specs.declared.RenderOptions.{RenderOptions}
+use Rattle.spans.specs.Sheet.{RenderLine, text}
+use Rattle.spans.specs.SubRenderer.{padded}
+use Rattle.spans.specs.Answer.{fits}
+use Rattle.spans.specs.Columns.{Slot, Column, cellMisfit, columnOf, columnLine, nextColumn, lineMisfit, linesMisfit, columnLines}
+use Rattle.slots.specs.declared.seat.Slots.{Slots}
+use Rattle.tagged_line.specs.declared.line.Line.{Line}
+use Rattle.extend_lines.specs.Emitted.{InBounds, OneLineMore, Emitted, AddsTextLine}
+use Rattle.extend_lines.specs.declared.lines.Lines.{Lines}
+use Rattle.extend_lines.proofs.Emitting.{one-more}
+use Rattle.row_lines.specs.Row.{isLong, columnsFrom, LaysKept}
+use Rattle.row_lines.specs.Place.{down}
+use Rattle.row_lines.specs.Rest.{columnsDown, LaysRest}
+use Rattle.row_lines.specs.Full.{RowAt, allColumns, LaysFull, AddsFullLine, AddsFull}
+use Rattle.row_lines.proofs.Growing.{or-first, or-second, sizeOf, long-unfit, long-size}
+use Rattle.row_lines.proofs.RowLaws.{or-true, lines-count, lines-first, misfit-first, long-more}
+
+-- the first columns of a line that can be drawn can be, and the others
+misfit-left : (row : ℕ) (cs ds : List Column) → lineMisfit row (cs ++ ds) ≡ false → lineMisfit row cs ≡ false
+unfolding lineMisfit
+misfit-left row [] ds e = refl
+misfit-left row (c ∷ cs) ds e =
+    both (cellMisfit row c (c .lines)) (lineMisfit row cs) (or-first (cellMisfit row c (c .lines)) (lineMisfit row (cs ++ ds)) e)
+    (misfit-left row cs ds (or-second (cellMisfit row c (c .lines)) (lineMisfit row (cs ++ ds)) e))
+  where
+    both : (a b : Bool) → a ≡ false → b ≡ false → (a || b) ≡ false
+    both true b x y = x
+    both false b x y = y
+
+misfit-right : (row : ℕ) (cs ds : List Column) → lineMisfit row (cs ++ ds) ≡ false → lineMisfit row ds ≡ false
+unfolding lineMisfit
+misfit-right row [] ds e = e
+misfit-right row (c ∷ cs) ds e = misfit-right row cs ds (or-second (cellMisfit row c (c .lines)) (lineMisfit row (cs ++ ds)) e)
+
+module _ (out mid : List ℕ) (s : RenderOptions) (cells sheet ats ends widths tos : List ℕ) (hungs : List Bool) (collapse : Bool) (n : ℕ) (more : Bool) (rest : Slots) (i : ℕ) (marks ats′ : List ℕ) (line : Line)
+    (f : LaysKept out s cells sheet ats ends widths tos hungs collapse n mid ats′ line) where
+  -- No seat is ahead.
+  pub full-kept : more ≡ false → LaysFull out s cells sheet ats ends widths tos hungs collapse n more rest i marks mid ats′ marks line
+  unfolding columnsFrom
+  full-kept e cs xs at row fine =
+      let t = f cs (at .kept) row (misfit-left row cs (columnsDown collapse i xs) fine) in
+      let none = at .ended e in
+      record {
+        pieces = t .pieces;
+        held = t .held;
+        grows = t .grows (columnsDown collapse i xs);
+        whole = λ x. ap (λ (z : List Slot). columnsFrom s n (t .pieces) (columnsDown collapse i z)) (sym none) ∙ t .whole x (columnsDown collapse i xs);
+        moved = λ x.
+            record {
+              kept = t .moved x;
+              total = at .total;
+              ahead = at .ahead;
+              marked = λ y. absurd (let z : _≡_ {A = ℕ} 0 1 = cc in omega arith);
+              ended = at .ended;
+            };
+      }
+
+  -- The line is too long.
+  pub full-long : isLong line ≡ true → LaysFull out s cells sheet ats ends widths tos hungs collapse n more rest i marks mid ats′ marks line
+  full-long e cs xs at row fine =
+      let t = f cs (at .kept) row (misfit-left row cs (columnsDown collapse i xs) fine) in
+      record {
+        pieces = t .pieces;
+        held = t .held;
+        grows = t .grows (columnsDown collapse i xs);
+        whole = λ x. absurd (let z : _≡_ {A = ℕ} 0 1 = cc in omega arith);
+        moved = λ x. absurd (let z : _≡_ {A = ℕ} 0 1 = cc in omega arith);
+      }
+
+  -- The seats ahead.
+  pub full-rest : (out′ marks′ : List ℕ) (r : Line) → more ≡ true → isLong line ≡ false → LaysRest mid line s cells sheet rest collapse n i marks out′ marks′ r
+      → LaysFull out s cells sheet ats ends widths tos hungs collapse n more rest i marks out′ ats′ marks′ r
+  full-rest out′ marks′ r e short g cs xs at row fine =
+      let t = f cs (at .kept) row (misfit-left row cs (columnsDown collapse i xs) fine) in
+      let u = g xs (at .total) (at .ahead e) (at .marked e) row (misfit-right row cs (columnsDown collapse i xs) fine) out (t .pieces) (t .held) in
+      let is = t .whole short (columnsDown collapse i xs) in
+      record {
+        pieces = u .pieces;
+        held = u .held;
+        grows = omega (arith, u .grows, ap sizeOf is);
+        whole = λ x. u .whole x ∙ is;
+        moved = λ x. record { kept = t .moved short; total = at .total; ahead = at .ahead; marked = λ _. u .moved x; ended = at .ended };
+      }
+
+-- A line that is not too long is added.
+pub full-added : (out mid out′ ats ats′ : List ℕ) (p r : Lines) (s : RenderOptions) (cells sheet ends widths tos : List ℕ) (hungs : List Bool) (collapse : Bool) (n : ℕ) (more : Bool) (rest : Slots) (i : ℕ) (marks marks′ : List ℕ) (line : Line)
+    → LaysFull out s cells sheet ats ends widths tos hungs collapse n more rest i marks mid ats′ marks′ line → length mid ≡ length out → isLong line ≡ false → AddsTextLine mid p line s out′ r
+    → AddsFullLine out p s cells sheet ats ends widths tos hungs collapse n more rest i marks out′ ats′ marks′ r
+full-added out mid out′ ats ats′ p r s cells sheet ends widths tos hungs collapse n more rest i marks marks′ line f size e g cs xs at row fine st ls em =
+    let t = f cs xs at row fine in
+    record {
+      emitted = subst (λ (l : List Piece). Emitted st (ls ++ (padded s (text l) ∷ [])) [] out′ r) (t .whole e) (g st out ls (t .pieces) em size (t .held));
+      moved = λ _. t .moved e;
+    }
+
+-- One that is too long is counted.
+pub full-counted : (out mid ats ats′ : List ℕ) (p r : Lines) (s : RenderOptions) (cells sheet ends widths tos : List ℕ) (hungs : List Bool) (collapse : Bool) (n : ℕ) (more : Bool) (rest : Slots) (i : ℕ) (marks marks′ : List ℕ) (line : Line)
+    → LaysFull out s cells sheet ats ends widths tos hungs collapse n more rest i marks mid ats′ marks′ line → length mid ≡ length out → isLong line ≡ true → r .count ≡ p .count + 1 → r .long ≡ true
+    → AddsFullLine out p s cells sheet ats ends widths tos hungs collapse n more rest i marks mid ats′ marks′ r
+full-counted out mid ats ats′ p r s cells sheet ends widths tos hungs collapse n more rest i marks marks′ line f size e count long cs xs at row fine st ls em =
+    let t = f cs xs at row fine in
+    let l = columnLine s [] (allColumns collapse i cs xs) in
+    let x : fits (padded s (text l)) ≡ false = long-unfit s l (omega (arith, t .grows, long-size out (t .pieces) mid line (t .held) e)) in
+    record {
+      emitted =
+          one-more st out mid ls (padded s (text l)) p r em size count (long ∙ sym (rw x (or-true (p .long))))
+          (λ y. absurd (let z : _≡_ {A = ℕ} 0 1 = cc in omega arith));
+      moved = λ y. absurd (let z : _≡_ {A = ℕ} 0 1 = cc in omega arith);
+    }
+
+-- ---- all lines of the row
+
+-- all columns one line further
+all-next : (collapse : Bool) (i : ℕ) (cs : List Column) (xs : List Slot) → map nextColumn (allColumns collapse i cs xs) ≡ allColumns collapse (suc i) (map nextColumn cs) xs
+unfolding down
+all-next collapse i [] [] = refl
+all-next collapse i [] (x ∷ xs) = ap (λ (z : List Column). nextColumn (down i (columnOf collapse x)) ∷ z) (all-next collapse i [] xs)
+all-next collapse i (c ∷ cs) xs = ap (λ (z : List Column). nextColumn c ∷ z) (all-next collapse i cs xs)
+
+module _ (out₀ : List ℕ) (p : Lines) (s : RenderOptions) (cells sheet ats₀ ends widths tos : List ℕ) (hungs : List Bool) (collapse : Bool) (n : ℕ) (more : Bool) (rest : Slots) (marks₀ : List ℕ) (height : ℕ) where
+  -- some lines are added, and the others come behind them
+  pub record FullTo (out ats marks : List ℕ) (q : Lines) (i : ℕ) (cs : List Column) (xs : List Slot) (row : ℕ) (st : List ℕ) (ls : List RenderLine) : Type 0 where
+    pub ms : List RenderLine
+    pub later : List RenderLine
+    pub emitted : Emitted st ms [] out q
+    pub count : length later ≡ height - i
+    pub are : ms ++ later ≡ ls ++ map (padded s) (columnLines s height (allColumns collapse 0 cs xs))
+    pub goes : q .long ≡ false
+        → (ds : List Column) × RowAt cells sheet ats ends widths tos hungs collapse n more rest i marks ds xs × (linesMisfit row (height - i) (allColumns collapse i ds xs) ≡ false)
+        × (later ≡ map (padded s) (columnLines s (height - i) (allColumns collapse i ds xs)))
+
+  -- with the numbers
+  pub record FullLaid (out ats marks : List ℕ) (q : Lines) (i : ℕ) : Type 0 where
+    pub bounds : InBounds q
+    pub few : i ≤ height
+    pub count : q .count ≡ p .count + i
+    pub size : length out ≡ length out₀
+    pub same : length ats ≡ length ats₀
+    pub marks-same : length marks ≡ length marks₀
+    pub left : (cs : List Column) (xs : List Slot) → RowAt cells sheet ats₀ ends widths tos hungs collapse n more rest 0 marks₀ cs xs → (row : ℕ)
+        → linesMisfit row height (allColumns collapse 0 cs xs) ≡ false → (st : List ℕ) (ls : List RenderLine) → Emitted st ls [] out₀ p → FullTo out ats marks q i cs xs row st ls
+
+  -- None at first.
+  pub fulls-start : InBounds p → FullLaid out₀ ats₀ marks₀ p 0
+  fulls-start b =
+      let none : height - 0 ≡ height = omega arith in
+      record {
+        bounds = b;
+        few = omega arith;
+        count = omega arith;
+        size = refl;
+        same = refl;
+        marks-same = refl;
+        left = λ cs xs at row fine st ls e.
+            record {
+              ms = ls;
+              later = map (padded s) (columnLines s height (allColumns collapse 0 cs xs));
+              emitted = e;
+              count = length-map (columnLines s height (allColumns collapse 0 cs xs)) (padded s) ∙ lines-count s height (allColumns collapse 0 cs xs) ∙ sym none;
+              are = refl;
+              goes = λ _. (cs, at, rw none fine, rw none refl);
+            };
+      }
+
+  module _ (out ats marks : List ℕ) (q : Lines) (i : ℕ) (w : FullLaid out ats marks q i) where
+    -- One line more.
+    pub fulls-on : (out′ ats′ marks′ : List ℕ) (r : Lines) → i < height → p .count + height < 1000000 → q .long ≡ false → length out′ ≡ length out → length ats′ ≡ length ats → length marks′ ≡ length marks → OneLineMore q r
+        → AddsFullLine out q s cells sheet ats ends widths tos hungs collapse n more rest i marks out′ ats′ marks′ r → FullLaid out′ ats′ marks′ r (i + 1)
+    fulls-on out′ ats′ marks′ r h room short size same marks-same on f =
+        let m : height - i ≡ suc (height - (i + 1)) = omega arith in
+        record {
+          bounds = record { at = omega (arith, on .count, on .at, w .bounds .at); count = omega (arith, on .count, w .count) };
+          few = omega arith;
+          count = omega (arith, on .count, w .count);
+          size = size ∙ w .size;
+          same = same ∙ w .same;
+          marks-same = marks-same ∙ w .marks-same;
+          left = λ cs xs at row fine st ls e.
+              let t = w .left cs xs at row fine st ls e in
+              let (ds, d, draws, later) = t .goes short in
+              let k = misfit-first row (height - (i + 1)) (allColumns collapse i ds xs) (rw m at draws) in
+              let a = f ds xs d row (k .0) st (t .ms) (t .emitted) in
+              let x = padded s (text (columnLine s [] (allColumns collapse i ds xs))) in
+              let next = map nextColumn (allColumns collapse i ds xs) in
+              let others = map (padded s) (columnLines s (height - (i + 1)) next) in
+              let one : suc i ≡ i + 1 = omega arith in
+              let go : next ≡ allColumns collapse (i + 1) (map nextColumn ds) xs = all-next collapse i ds xs ∙ ap (λ (z : ℕ). allColumns collapse z (map nextColumn ds) xs) one in
+              let split : t .later ≡ x ∷ others = later ∙ ap (λ (z : ℕ). map (padded s) (columnLines s z (allColumns collapse i ds xs))) m ∙ ap (map (padded s)) (lines-first s (height - (i + 1)) (allColumns collapse i ds xs)) in
+              record {
+                ms = t .ms ++ (x ∷ []);
+                later = others;
+                emitted = a .emitted;
+                count = length-map (columnLines s (height - (i + 1)) next) (padded s) ∙ lines-count s (height - (i + 1)) next;
+                are = append-assoc (t .ms) (x ∷ []) others ∙ ap (λ (z : List RenderLine). t .ms ++ z) (sym split) ∙ t .are;
+                goes = λ y. (
+                  map nextColumn ds,
+                  subst (λ (z : ℕ). RowAt cells sheet ats′ ends widths tos hungs collapse n more rest z marks′ (map nextColumn ds) xs) one (a .moved y),
+                  sym (ap (linesMisfit row (height - (i + 1))) go) ∙ k .1,
+                  ap (λ (z : List Column). map (padded s) (columnLines s (height - (i + 1)) z)) go,
+                );
+              };
+        }
+
+    -- A line is too long: the others are counted.
+    pub fulls-long : (r : Lines) → q .long ≡ true → r .long ≡ true → r .count ≡ q .count + (height - i)
+        → AddsFull out₀ p s cells sheet ats₀ ends widths tos hungs collapse n more rest marks₀ height out r
+    fulls-long r long rlong count cs xs at row fine st ls e =
+        let t = w .left cs xs at row fine st ls e in
+        subst (λ (z : List RenderLine). Emitted st z [] out r) (t .are) (long-more st (t .ms) (t .later) out q r (t .emitted) long rlong (count ∙ ap (λ (z : ℕ). q .count + z) (sym (t .count))))
+
+    -- All lines.
+    pub fulls-end : height ≤ i → AddsFull out₀ p s cells sheet ats₀ ends widths tos hungs collapse n more rest marks₀ height out q
+    fulls-end h cs xs at row fine st ls e =
+        let t = w .left cs xs at row fine st ls e in
+        let none : t .later ≡ [] = empty (t .later) (omega (arith, t .count)) in
+        let all-of : t .ms ≡ ls ++ map (padded s) (columnLines s height (allColumns collapse 0 cs xs)) = sym (append-nil (t .ms)) ∙ ap (λ (z : List RenderLine). t .ms ++ z) (sym none) ∙ t .are in
+        subst (λ (z : List RenderLine). Emitted st z [] out q) all-of (t .emitted)
+      where
+        empty : (ys : List RenderLine) → length ys ≡ 0 → ys ≡ []
+        empty [] x = refl
+        empty (y ∷ ys) x = absurd (omega arith)

@@ -1,0 +1,179 @@
+// The lines of a row of any number of seats: the first are kept, and the others are ahead. What a function here requires, its callers
+// show.
+use crate::rest::lay_rest;
+use crate::row::is_long;
+use crate::row::lay_kept;
+use crate::row::too_long;
+use extend_lines::lines::Lines;
+use extend_lines::lines::add_text_line;
+use rows::RenderOptions;
+use slots::seat::Slots;
+use tagged_line::line::Line;
+ghost use mathlib.Core.Path.{_≡_};
+ghost use Prim.Native.Nat.{_+_, _≤_, _<_};
+ghost use lib.ListN.{length};
+ghost use Rattle.slots.specs.Seats.{SlotsIn};
+ghost use Rattle.extend_lines.specs.Emitted.{InBounds, OneLineMore, LineBegun};
+ghost use Rattle.row_lines.specs.Row.{Narrow};
+ghost use Rattle.row_lines.specs.Full.{LaysFull, AddsFullLine, AddsFull};
+
+// All seats on a new line, up to where it is too long; each stands one line further.
+fn lay_full(
+    out: &mut [u8],
+    lines: Lines,
+    options: RenderOptions,
+    cells: &[u8],
+    sheet: &[u8],
+    at: &mut [usize],
+    end: &[usize; 16],
+    width: &[usize; 16],
+    to: &[usize; 16],
+    hung: &[bool; 16],
+    collapse: bool,
+    n: usize,
+    more: bool,
+    rest: Slots,
+    i: usize,
+    marks: &mut [u8],
+) -> Line
+    requires { ⌜ InBounds lines × (n ≤ length (now at)) × (n ≤ 16) × Narrow (now width) (now to) n × SlotsIn (now cells) (now sheet) rest ⌝ }
+    ensures { λ r. ⌜ LineBegun lines r 2100000 ⌝ }
+    ensures { λ r. ⌜ LaysFull (now (out .entry)) options (now (cells .entry)) (now (sheet .entry)) (now (at .entry)) (now (end .entry)) (now (width .entry)) (now (to .entry)) (now (hung .entry)) collapse n more rest i (now (marks .entry)) (now (out .exit)) (now (at .exit)) (now (marks .exit)) r ⌝ }
+{
+    let line = lay_kept(
+        out,
+        lines,
+        options,
+        cells,
+        sheet,
+        at,
+        end,
+        width,
+        to,
+        hung,
+        collapse,
+        n,
+    );
+    if !more {
+        return line;
+    }
+    if is_long(line) {
+        return line;
+    }
+    lay_rest(
+        out,
+        lines,
+        line,
+        options,
+        cells,
+        sheet,
+        rest,
+        collapse,
+        n,
+        i,
+        marks,
+    )
+}
+
+// One line of the row.
+fn add_full_line(
+    out: &mut [u8],
+    lines: Lines,
+    options: RenderOptions,
+    cells: &[u8],
+    sheet: &[u8],
+    at: &mut [usize],
+    end: &[usize; 16],
+    width: &[usize; 16],
+    to: &[usize; 16],
+    hung: &[bool; 16],
+    collapse: bool,
+    n: usize,
+    more: bool,
+    rest: Slots,
+    i: usize,
+    marks: &mut [u8],
+) -> Lines
+    requires { ⌜ InBounds lines × (n ≤ length (now at)) × (n ≤ 16) × Narrow (now width) (now to) n × SlotsIn (now cells) (now sheet) rest ⌝ }
+    ensures { λ r. ⌜ OneLineMore lines r ⌝ }
+    ensures { λ r. ⌜ AddsFullLine (now (out .entry)) lines options (now (cells .entry)) (now (sheet .entry)) (now (at .entry)) (now (end .entry)) (now (width .entry)) (now (to .entry)) (now (hung .entry)) collapse n more rest i (now (marks .entry)) (now (out .exit)) (now (at .exit)) (now (marks .exit)) r ⌝ }
+{
+    let line = lay_full(
+        out,
+        lines,
+        options,
+        cells,
+        sheet,
+        at,
+        end,
+        width,
+        to,
+        hung,
+        collapse,
+        n,
+        more,
+        rest,
+        i,
+        marks,
+    );
+    if is_long(line) {
+        return too_long(lines);
+    }
+    add_text_line(out, lines, line, options)
+}
+
+// The lines of the row, so many; behind one that is too long they are only counted.
+pub fn add_full_lines(
+    out: &mut [u8],
+    lines: Lines,
+    options: RenderOptions,
+    cells: &[u8],
+    sheet: &[u8],
+    at: &mut [usize],
+    end: &[usize; 16],
+    width: &[usize; 16],
+    to: &[usize; 16],
+    hung: &[bool; 16],
+    collapse: bool,
+    n: usize,
+    more: bool,
+    rest: Slots,
+    marks: &mut [u8],
+    height: usize,
+) -> Lines
+    requires { ⌜ InBounds lines × (n ≤ length (now at)) × (n ≤ 16) × Narrow (now width) (now to) n × SlotsIn (now cells) (now sheet) rest × (lines .count + height < 1000000) ⌝ }
+    ensures { λ r. ⌜ InBounds r × (r .count ≡ lines .count + height) ⌝ }
+    ensures { λ r. ⌜ AddsFull (now (out .entry)) lines options (now (cells .entry)) (now (sheet .entry)) (now (at .entry)) (now (end .entry)) (now (width .entry)) (now (to .entry)) (now (hung .entry)) collapse n more rest (now (marks .entry)) height (now (out .exit)) r ⌝ }
+{
+    let mut next = lines;
+    let mut i: usize = 0;
+    while i < height {
+        if next.long {
+            return Lines {
+                at: next.at,
+                count: next.count + (height - i),
+                long: true,
+            };
+        }
+        next = add_full_line(
+            out,
+            next,
+            options,
+            cells,
+            sheet,
+            at,
+            end,
+            width,
+            to,
+            hung,
+            collapse,
+            n,
+            more,
+            rest,
+            i,
+            marks,
+        );
+        i += 1;
+    }
+    next
+}
