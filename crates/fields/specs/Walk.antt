@@ -2,15 +2,14 @@
 -- Assumes nothing: these are definitions.
 use mathlib.Core.Bool.{false}
 use Prim.Native.Nat.{ℕ}
-use lib.Dec.{eqb}
 use Rattle.characters.specs.If.{if_then_else_}
 use Rattle.fields.specs.Field.{Raw}
 use Rattle.fields.specs.Text.{readableText}
 use Rattle.fields.specs.First.{refusalOf, unless}
 use Rattle.fields.specs.Job.{readField, isWrong, readable}
-use Rattle.fields.specs.Sheet.{readPiece, readLine, readCell, readPrefix, readablePiece, readableLine, readableCell}
+use Rattle.fields.specs.Sheet.{readPiece, readLine, readPrefix, readablePiece, readableLine}
 use Rattle.fields.specs.declared.walk.Kind.{Kind}
-use Rattle.fields.specs.declared.walk.Kind.the-variants.{Job, Pieces, Lines, Cells, Prefixes}
+use Rattle.fields.specs.declared.walk.Kind.the-variants.{Job, Pieces, Prefixes}
 
 -- 1 or 3 of a T or an F field of a job
 unfoldable pub fieldRefusal : Raw → ℕ
@@ -20,13 +19,9 @@ fieldRefusal r = if isWrong (readField r) then 1 else unless (readable (readFiel
 unfoldable pub pieceRefusal : Raw → ℕ
 pieceRefusal r = refusalOf (λ p. unless (readablePiece p)) (readPiece r)
 
--- 1 or 3 of a line
+-- 1 or 3 of a line of document 01
 unfoldable pub lineRefusal : Raw → ℕ
 lineRefusal r = refusalOf (λ l. unless (readableLine l)) (readLine r)
-
--- 1, 2 or 3 of a cell
-unfoldable pub cellRefusal : Raw → ℕ
-cellRefusal r = refusalOf (λ c. if eqb (c .width) 0 then 2 else unless (readableCell c)) (readCell r)
 
 -- 1 or 3 of a prefix
 unfoldable pub prefixRefusal : Raw → ℕ
@@ -36,6 +31,4 @@ prefixRefusal r = refusalOf (λ p. unless (readableText false p)) (readPrefix r)
 abbrev pub refusalIn : Kind → Raw → ℕ
 refusalIn Job = fieldRefusal
 refusalIn Pieces = pieceRefusal
-refusalIn Lines = lineRefusal
-refusalIn Cells = cellRefusal
 refusalIn Prefixes = prefixRefusal

@@ -21,8 +21,8 @@ use Rattle.fields.specs.declared.field.Field.the-variants as field
 use Rattle.fields.proofs.Fields.{FieldIs, field-broken, field-end, at-end}
 use Rattle.fields.proofs.Readings.{read-first, read-none}
 use Rattle.fields.proofs.Parts.{part-length, part-cons, drop-take}
-use Rattle.spans.specs.Sheet.{Hole, hole, RenderLine, text, border, Hanging, hanging, Sheet, sheetOf, RawHole, punched, torn, rawHolesF, rawHoles, readHole, readHoles, endsWithin, holed, readHoled, readBorder, readLine, isSpan, readHangingContent, readHanging, beforeHanging, fromHanging, counted, readHeaded, readSheet}
-use Rattle.spans.proofs.Back.{holes-cons}
+use Rattle.fields.specs.Spans.{Hole, hole, RenderLine, text, border, Hanging, hanging, Sheet, sheetOf, RawHole, punched, torn, rawHolesF, rawHoles, readHole, readHoles, endsWithin, holed, readHoled, readBorder, readLine, isSpan, readHangingContent, readHanging, beforeHanging, fromHanging, counted, readHeaded, readSheet}
+use Rattle.fields.proofs.SpansBack.{holes-cons}
 use Rattle.reader.specs.Reading.{partOf, twoAt, pieceAt, lineEnd, piecesFrom, holesFrom, linesFrom, linesEnd, hangingsFrom, walked, WalksBack}
 use Rattle.reader.proofs.Places.{part-inside, part-cut, found, piece-is, piece-name, piece-text, border-plain, border-holed, line-is, line-text, line-plain, line-holed, line-over, line-end-is, lines-end-here, hole-end, hole-is, hanging-is, hanging-cell}
 

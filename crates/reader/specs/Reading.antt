@@ -12,8 +12,8 @@ use Rattle.fields.specs.Sheet as sheet
 use Rattle.fields.specs.Sheet.{str, fragment}
 use Rattle.fields.specs.declared.field.Field.{Field}
 use Rattle.fields.specs.declared.field.Field.the-variants as field
-use Rattle.spans.specs.Sheet as spans
-use Rattle.spans.specs.Sheet.{RenderLine, text, border, Sheet, sheetOf, readSheet}
+use Rattle.fields.specs.Spans as spans
+use Rattle.fields.specs.Spans.{RenderLine, text, border, Sheet, sheetOf, readSheet}
 use Rattle.reader.specs.declared.line.Piece.{Piece}
 use Rattle.reader.specs.declared.line.Piece.the-variants as piece
 use Rattle.reader.specs.declared.line.Line.{Line}

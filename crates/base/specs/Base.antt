@@ -1,0 +1,55 @@
+-- Document 01's sheets and cells among those of request 2.1, and inputs that have none of the request's fields.
+-- Assumes nothing: these are definitions.
+use mathlib.Core.Bool.{Bool, true, not, _&&_}
+use mathlib.Core.List.{List, [], map}
+use Prim.Native.Nat.{ℕ}
+use lib.Dec.{eqb}
+use lib.ListN.{drop}
+use Rattle.fields.specs.Field.{Raw, whole, broken, raws, all}
+use Rattle.fields.specs.Sheet.{RenderLine as BaseLine, text as base-text, border as base-border, Cell as BaseCell}
+use Rattle.fields.specs.Answer.{Verdict as BaseVerdict, refused as base-refused, sheet as base-sheet}
+use Rattle.fields.specs.Spans.{RenderLine, text, border, Sheet, sheetOf, Cell, cell}
+use Rattle.rows.specs.Answer.{Verdict, refused, sheet}
+
+-- a line without holes
+abbrev pub asLine : BaseLine → RenderLine
+asLine (base-text ps) = text ps
+asLine (base-border a segs) = border a segs []
+
+-- a sheet from which nothing hangs
+abbrev pub asSheet : List BaseLine → Sheet
+asSheet ls = sheetOf (map asLine ls) []
+
+-- a cell of one row
+abbrev pub asCell : BaseCell → Cell
+asCell c = cell (c .width) 1 (map asLine (c .lines))
+
+-- what a call comes to
+abbrev pub asVerdict : BaseVerdict → Verdict
+asVerdict (base-refused n) = refused n
+asVerdict (base-sheet ls) = sheet (asSheet ls)
+
+-- ---- inputs without the fields of request 2.1
+
+-- no G field
+abbrev pub notHoled : Raw → Bool
+notHoled broken = true
+notHoled (whole l content) = not (eqb l 0x47)
+
+-- no V field
+abbrev pub notHanging : Raw → Bool
+notHanging broken = true
+notHanging (whole l content) = not (eqb l 0x56)
+
+-- a sheet without G and V fields, good or broken
+abbrev pub baseSheet : List ℕ → Bool
+baseSheet bs = all notHoled (raws bs) && all notHanging (raws bs)
+
+-- no K field, and no G among a cell's lines
+abbrev pub baseCell : Raw → Bool
+baseCell broken = true
+baseCell (whole l content) = not (eqb l 0x4B) && all notHoled (raws (drop 1 content))
+
+-- cells without K and G fields, good or broken
+abbrev pub baseCells : List ℕ → Bool
+baseCells bs = all baseCell (raws bs)

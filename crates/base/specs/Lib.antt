@@ -1,0 +1,3 @@
+pub mod SubRenderer
+pub mod Answer
+pub mod Base
