@@ -14,14 +14,14 @@ use Rattle.fields.specs.Field.{whole, raws, fieldAt, readAll, all, part}
 use Rattle.fields.specs.Sheet.{Piece, readPiece, isSegment}
 use Rattle.fields.specs.declared.field.Field.the-variants.{At, Broken, End}
 use Rattle.rows.proofs.Reading.{OnSome, some-of}
-use Rattle.spans.specs.Sheet.{Hole, RenderLine, text, border, endsWithin, holed, readHoles, rawHoles, readHoled, readBorder, readLine, readableLine, readableLines}
-use Rattle.spans.specs.SubRenderer.{isBorder, startsBorder, top, withoutTop, bottom, withoutBottom}
-use Rattle.spans.specs.Columns.{Slot, columnOf}
-use Rattle.spans.specs.Places.{LinesAt}
-use Rattle.bodies.specs.Walk.{PassesTop, LastLine, none-there, last-there, Walks}
+use Rattle.fields.specs.Spans.{Hole, RenderLine, text, border, endsWithin, holed, readHoles, rawHoles, readHoled, readBorder, readLine, readableLine, readableLines}
+use Rattle.rows.specs.SubRenderer.{isBorder, startsBorder, top, withoutTop, bottom, withoutBottom}
+use Rattle.rows.specs.Columns.{Slot, columnOf}
+use Rattle.fields.specs.Places.{LinesAt}
+use Rattle.bodies.specs.Walk.{PassesTop, TellsTop, LastLine, none-there, last-there, unholed, Walks}
 use Rattle.bodies.specs.Body.{BottomAt, FindsBody}
 use Rattle.bodies.specs.declared.walk.Walked.{Walked}
-use Rattle.bodies.proofs.LineLaws.{no-lines, first-line, line-broken, line-end, lines-nil}
+use Rattle.bodies.proofs.LineLaws.{line-by-size, no-lines, first-line, line-broken, line-end, lines-nil}
 
 -- ---- what a line is
 
@@ -122,6 +122,26 @@ top-broken s from to h e ls c = absurd (line-broken s from to ls h c e)
 pub top-end : (s : List ℕ) (from to : ℕ) → from < to → fieldAt from (drop from s) ≡ End → PassesTop s from to from
 top-end s from to h e ls c = absurd (line-end s from to ls h c e)
 
+-- No lines do not start with a border.
+pub tells-none : (s : List ℕ) (from to : ℕ) → to ≤ from → TellsTop s from to false
+tells-none s from to h ls c = rw (no-lines s from to ls h c)
+
+-- Lines stand inside the bytes.
+pub tells-outside : (s : List ℕ) (from to : ℕ) → from < to → length s ≤ from → TellsTop s from to false
+tells-outside s from to h k ls c = absurd (omega (arith, c .inside))
+
+-- A text does not.
+pub tells-text : (s : List ℕ) (from to : ℕ) → from < to → getD s from 0 ≡ 0x4C → TellsTop s from to false
+tells-text s from to h k ls c =
+    let f = line-by-size s from to ls h c in
+    sym (ap (λ (z : List RenderLine). startsBorder z) (f .are) ∙ line-text (getD s from 0) _ (f .one) (f .reads) k)
+
+-- Another line does.
+pub tells-border : (s : List ℕ) (from to : ℕ) → from < to → (getD s from 0 ≡ 0x4C → ⊥) → TellsTop s from to true
+tells-border s from to h k ls c =
+    let f = line-by-size s from to ls h c in
+    sym (ap (λ (z : List RenderLine). startsBorder z) (f .are) ∙ line-border (getD s from 0) _ (f .one) (f .reads) k)
+
 -- ---- a last border
 
 -- the last of several lines
@@ -157,21 +177,38 @@ kept-of s at to last ms (none-there x e) k = rw e (record { same = refl; nothing
 kept-of s at to last ms (last-there x before l e d a r) k =
     rw e (kept-text before l (line-text (getD s last 0) (part (last + 3) to s) l r (k (omega arith))))
 
+-- Lines without a last border are some of them.
+all-bottom : (p : RenderLine → Bool) (ls : List RenderLine) → all p ls ≡ true → all p (withoutBottom ls) ≡ true
+unfolding all withoutBottom
+all-bottom p [] h = refl
+all-bottom p (text ps ∷ []) h = h
+all-bottom p (border a segs hs ∷ []) h = refl
+all-bottom p (text ps ∷ k ∷ ls) h =
+    let x = and-left (p (text ps)) (all p (k ∷ ls)) h in
+    let y = all-bottom p (k ∷ ls) (and-right (p (text ps)) (all p (k ∷ ls)) h) in
+    rw (x, y)
+all-bottom p (border a segs hs ∷ k ∷ ls) h =
+    let x = and-left (p (border a segs hs)) (all p (k ∷ ls)) h in
+    let y = all-bottom p (k ∷ ls) (and-right (p (border a segs hs)) (all p (k ∷ ls)) h) in
+    rw (x, y)
+
 -- A cell that is not collapsed has all its lines.
 pub body-plain : (s : List ℕ) (at end : ℕ) (collapse : Bool) (w : Walked) → collapse ≡ false → Walks s at end w
-    → FindsBody s at end collapse (record { at = at; end = end; stop = end; count = w .count })
+    → FindsBody s at end collapse (record { at = at; end = end; stop = end; count = w .count; holed = w .holed })
 unfolding columnOf
 body-plain s at end collapse w e f x c =
-    rw e (record { lines-at = c; count-is = f (x .lines) c .1; bottom-at = refl })
+    let q = f (x .lines) c in
+    rw e (record { lines-at = c; count-is = q .count-is; bottom-at = refl; plain = q .plain })
 
 -- A collapsed cell that ends in text, or has no lines.
 pub body-kept : (s : List ℕ) (at end from : ℕ) (collapse : Bool) (w : Walked) → collapse ≡ true → PassesTop s at end from → Walks s from end w
-    → (w .last < end → getD s (w .last) 0 ≡ 0x4C) → FindsBody s at end collapse (record { at = from; end = end; stop = end; count = w .count })
+    → (w .last < end → getD s (w .last) 0 ≡ 0x4C) → FindsBody s at end collapse (record { at = from; end = end; stop = end; count = w .count; holed = w .holed })
 unfolding columnOf
 body-kept s at end from collapse w e p f k x c =
     let g = p (x .lines) c .goes in
-    let q = kept-of s from end (w .last) (withoutTop (x .lines)) (f (withoutTop (x .lines)) g .0) k in
-    rw (e, q .same, q .nothing) (record { lines-at = g; count-is = f (withoutTop (x .lines)) g .1; bottom-at = refl })
+    let i = f (withoutTop (x .lines)) g in
+    let q = kept-of s from end (w .last) (withoutTop (x .lines)) (i .last-is) k in
+    rw (e, q .same, q .nothing) (record { lines-at = g; count-is = i .count-is; bottom-at = refl; plain = i .plain })
 
 -- lines that end in a border
 record Off (s : List ℕ) (at last to count : ℕ) (ms : List RenderLine) : Type 0 where
@@ -199,13 +236,20 @@ off-of s at to last count ms (last-there x before l e d a r) h k n =
 
 -- A collapsed cell that ends in a border.
 pub body-off : (s : List ℕ) (at end from : ℕ) (collapse : Bool) (w : Walked) → collapse ≡ true → PassesTop s at end from → Walks s from end w
-    → w .last < end → (getD s (w .last) 0 ≡ 0x4C → ⊥) → FindsBody s at end collapse (record { at = from; end = w .last; stop = end; count = w .count - 1 })
+    → w .last < end → (getD s (w .last) 0 ≡ 0x4C → ⊥) → FindsBody s at end collapse (record { at = from; end = w .last; stop = end; count = w .count - 1; holed = w .holed })
 unfolding columnOf
 body-off s at end from collapse w e p f h k x c =
     let ms = withoutTop (x .lines) in
     let g = p (x .lines) c .goes in
-    let q = off-of s from end (w .last) (w .count) ms (f ms g .0) h k (f ms g .1) in
-    rw e (record { lines-at = q .lines-at; count-is = q .count-is; bottom-at = q .bottom-at })
+    let i = f ms g in
+    let q = off-of s from end (w .last) (w .count) ms (i .last-is) h k (i .count-is) in
+    rw e
+    (record {
+      lines-at = q .lines-at;
+      count-is = q .count-is;
+      bottom-at = q .bottom-at;
+      plain = λ n. all-bottom unholed ms (i .plain n);
+    })
 
 -- ---- the line that was taken off, and lines that passed refusal 3
 
@@ -222,18 +266,8 @@ readable-top (text ps ∷ ls) h = h
 readable-top (border a segs hs ∷ ls) h = and-right (readableLine (border a segs hs)) (readableLines ls) h
 
 readable-bottom : (ls : List RenderLine) → readableLines ls ≡ true → readableLines (withoutBottom ls) ≡ true
-unfolding readableLines all withoutBottom
-readable-bottom [] h = refl
-readable-bottom (text ps ∷ []) h = h
-readable-bottom (border a segs hs ∷ []) h = refl
-readable-bottom (text ps ∷ k ∷ ls) h =
-    let x = and-left (readableLine (text ps)) (readableLines (k ∷ ls)) h in
-    let y = readable-bottom (k ∷ ls) (and-right (readableLine (text ps)) (readableLines (k ∷ ls)) h) in
-    rw (x, y)
-readable-bottom (border a segs hs ∷ k ∷ ls) h =
-    let x = and-left (readableLine (border a segs hs)) (readableLines (k ∷ ls)) h in
-    let y = readable-bottom (k ∷ ls) (and-right (readableLine (border a segs hs)) (readableLines (k ∷ ls)) h) in
-    rw (x, y)
+unfolding readableLines
+readable-bottom ls h = all-bottom readableLine ls h
 
 -- A COLUMN'S LINES ARE LINES OF ITS CELL.
 pub column-readable : (collapse : Bool) (x : Slot) → readableLines (x .lines) ≡ true → readableLines (columnOf collapse x .lines) ≡ true

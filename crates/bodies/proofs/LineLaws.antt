@@ -1,21 +1,25 @@
 -- Laws of the lines that stand between two places of a byte list.
 -- Assumes nothing.
 use mathlib.Core.Path.{_≡_, refl, sym, ap, ap₂, _∙_}
-use mathlib.Core.Option.{some}
+use mathlib.Core.Bool.{Bool, true, false, _||_}
+use mathlib.Core.Option.{Option, none, some, Option·map}
 use mathlib.Core.List.{List, [], _∷_, _++_, append-nil, append-assoc}
 use mathlib.Core.Logic.{⊎-elim}
 use Prim.Native.Nat.{ℕ, _+_, _-_, _≤_, _<_}
 use native.Mathlib.Omega.{arith}
+use lib.Dec.{eqb}
 use lib.ListN.{length, take, drop, getD, length-append, length-drop, drop-of-length-le}
 use lib.Seq.{drop-drop}
-use Rattle.characters.proofs.Tests.{lt-or-le}
-use Rattle.fields.specs.Field.{Raw, whole, broken, raws, fieldAt, readAll, part}
+use Rattle.characters.proofs.Tests.{by-if, lt-or-le, or-left, or-right, and-left, and-right, clash}
+use Rattle.fields.specs.Field.{Raw, whole, broken, raws, fieldAt, readAll, all, part}
+use Rattle.fields.specs.Sheet.{Piece, readPiece, isSegment}
 use Rattle.fields.specs.declared.field.Field.the-variants.{At, Broken, End}
 use Rattle.fields.proofs.Readings.{read-first, read-none, read-on}
 use Rattle.fields.proofs.Fields.{raws-nil, at-field}
-use Rattle.spans.specs.Sheet.{RenderLine, readLine}
-use Rattle.spans.specs.Places.{LinesAt}
-use Rattle.bodies.specs.Walk.{LastLine, none-there, last-there, WalkedIn, Walks, SkipsTo}
+use Rattle.rows.proofs.Reading.{OnSome, some-of}
+use Rattle.fields.specs.Spans.{RenderLine, text, readBorder, readLine}
+use Rattle.fields.specs.Places.{LinesAt}
+use Rattle.bodies.specs.Walk.{LastLine, none-there, last-there, unholed, WalkedIn, Walks, SkipsTo}
 use Rattle.bodies.specs.declared.walk.Walked.{Walked}
 use Rattle.bodies.proofs.FieldLaws.{sizeAt, FoundAt, found-at, no-field, no-end, part-field, part-broken}
 
@@ -149,6 +153,37 @@ line-end s at to ls h c e =
     let g = line-by-size s at to ls h c in
     no-end (sym e ∙ sym (at-field s at (sizeAt s at) (omega (arith, g .fits, c .inside)) refl (omega (arith, g .fits, c .inside))))
 
+-- ---- lines without holes
+
+unholed-text : (o : Option (List Piece)) → OnSome (λ (l : RenderLine). unholed l ≡ true) (Option·map text o)
+unholed-text none = tt
+unholed-text (some ps) = refl
+
+unholed-border : (t : List ℕ) → OnSome (λ (l : RenderLine). unholed l ≡ true) (readBorder t)
+unholed-border [] = tt
+unholed-border (a ∷ segs) = by-if (OnSome (λ (l : RenderLine). unholed l ≡ true)) (all isSegment segs) (λ _. refl) (λ _. tt)
+
+unholed-of : (letter : ℕ) (t : List ℕ) → eqb letter 0x47 ≡ false → OnSome (λ (l : RenderLine). unholed l ≡ true) (readLine (whole letter t))
+unfolding readLine
+unholed-of letter t g =
+    by-if (OnSome (λ (l : RenderLine). unholed l ≡ true)) (eqb letter 0x4C) (λ _. unholed-text (readAll readPiece (raws t)))
+    (λ _.
+    by-if (OnSome (λ (l : RenderLine). unholed l ≡ true)) (eqb letter 0x42) (λ _. unholed-border t)
+    (λ _. by-if (OnSome (λ (l : RenderLine). unholed l ≡ true)) (eqb letter 0x47) (λ e. absurd (clash e g)) (λ _. tt)))
+
+-- A LINE THAT IS READ HAS NO HOLES UNLESS ITS LETTER IS G.
+pub line-unholed : (letter : ℕ) (t : List ℕ) (l : RenderLine) → readLine (whole letter t) ≡ some l → eqb letter 0x47 ≡ false → unholed l ≡ true
+line-unholed letter t l e g = some-of (λ (l : RenderLine). unholed l ≡ true) (readLine (whole letter t)) l e (unholed-of letter t g)
+
+-- One line more.
+all-snoc : (p : RenderLine → Bool) (ls : List RenderLine) (l : RenderLine) → all p ls ≡ true → p l ≡ true → all p (ls ++ (l ∷ [])) ≡ true
+unfolding all
+all-snoc p [] l h k = rw k
+all-snoc p (m ∷ ls) l h k =
+    let x = and-left (p m) (all p ls) h in
+    let y = all-snoc p ls l (and-right (p m) (all p ls) h) k in
+    rw (x, y)
+
 -- ---- the last line
 
 -- of the lines passed so far the last stands at a place, or none is passed
@@ -158,21 +193,23 @@ pub data LastOf (s : List ℕ) (from to at last : ℕ) (before : List RenderLine
       → LinesAt s last at (l ∷ []) → readLine (whole (getD s last 0) (part (last + 3) at s)) ≡ some l → LastOf s from to at last before
 
 -- the lines passed so far, and those ahead
-pub record Passed (s : List ℕ) (from to at last count : ℕ) (ls : List RenderLine) : Type 0 where
+pub record Passed (s : List ℕ) (from to at last count : ℕ) (holed : Bool) (ls : List RenderLine) : Type 0 where
   pub before : List RenderLine
   pub after : List RenderLine
   pub are : ls ≡ before ++ after
   pub behind : LinesAt s from at before
   pub ahead : LinesAt s at to after
   pub counts : count ≡ length before
+  pub bare : holed ≡ false → all unholed before ≡ true
   pub last-is : LastOf s from to at last before
 
 -- of all lines that stand between two places
-abbrev pub Passes : List ℕ → ℕ → ℕ → ℕ → ℕ → ℕ → Type 0
-Passes s from to at last count = (ls : List RenderLine) → LinesAt s from to ls → Passed s from to at last count ls
+abbrev pub Passes : List ℕ → ℕ → ℕ → ℕ → ℕ → ℕ → Bool → Type 0
+Passes s from to at last count holed = (ls : List RenderLine) → LinesAt s from to ls → Passed s from to at last count holed ls
 
 -- Nothing is passed at first.
-pub passes-start : (s : List ℕ) (from to : ℕ) → Passes s from to from to 0
+pub passes-start : (s : List ℕ) (from to : ℕ) → Passes s from to from to 0 false
+unfolding all
 passes-start s from to ls c =
     record {
       before = [];
@@ -181,13 +218,14 @@ passes-start s from to ls c =
       behind = lines-nil s from (omega (arith, c .order, c .inside));
       ahead = c;
       counts = refl;
+      bare = λ h. refl;
       last-is = none-yet refl refl;
     }
 
 -- A field that is found is the next line.
-pub passes-on : (s : List ℕ) (from to at last count letter start next : ℕ) → Passes s from to at last count → at < to
-    → fieldAt at (drop at s) ≡ At letter start next → Passes s from to next at (count + 1)
-passes-on s from to at last count l st nx inv h e ls c =
+pub passes-on : (s : List ℕ) (from to at last count : ℕ) (holed : Bool) (letter start next : ℕ) (holed′ : Bool) → Passes s from to at last count holed → at < to
+    → fieldAt at (drop at s) ≡ At letter start next → holed′ ≡ (eqb letter 0x47 || holed) → Passes s from to next at (count + 1) holed′
+passes-on s from to at last count holed l st nx holed′ inv h e g ls c =
     let p = inv ls c in
     let t = first-line s at to l st nx (p .after) h e (p .ahead) in
     let f = t .found in
@@ -199,6 +237,11 @@ passes-on s from to at last count l st nx inv h e ls c =
       behind = lines-append s from at nx (p .before) (t .one ∷ []) (p .behind) a;
       ahead = t .goes;
       counts = omega (arith, p .counts, length-append (p .before) (t .one ∷ []));
+      bare =
+          λ k.
+          let n : (eqb l 0x47 || holed) ≡ false = sym g ∙ k in
+          all-snoc unholed (p .before) (t .one) (p .bare (or-right (eqb l 0x47) holed n))
+          (line-unholed l (part st nx s) (t .one) (t .reads) (or-left (eqb l 0x47) holed n));
       last-is =
           one-at (omega (arith, f .next-is)) (p .before) (t .one) refl (p .behind) a
           (ap₂ (λ (x y : ℕ). readLine (whole x (part y nx s))) (sym (f .letter-is)) (sym (f .start-is)) ∙ t .reads);
@@ -210,24 +253,27 @@ last-found s from to at last ls before e d (none-yet x y) = none-there x (d ∙ 
 last-found s from to at last ls before e d (one-at h earlier l x y a z) = last-there (rw e at h) earlier l (d ∙ x) y (rw e at a) (rw e at z)
 
 -- Past the last line.
-pub passes-end : (s : List ℕ) (from to at last count : ℕ) → Passes s from to at last count → to ≤ at → Walks s from to (record { last = last; count = count })
-passes-end s from to at last count inv h ls c =
+pub passes-end : (s : List ℕ) (from to at last count : ℕ) (holed : Bool) → Passes s from to at last count holed → to ≤ at
+    → Walks s from to (record { last = last; count = count; holed = holed })
+passes-end s from to at last count holed inv h ls c =
     let p = inv ls c in
     let e : at ≡ to = omega (arith, p .ahead .order) in
     let n : p .after ≡ [] = no-lines s at to (p .after) h (p .ahead) in
-    let d : ls ≡ p .before = p .are ∙ ap (λ (z : List RenderLine). p .before ++ z) n ∙ append-nil (p .before) in (
-      last-found s from to at last ls (p .before) e d (p .last-is),
-      p .counts ∙ ap length (sym d),
-    )
+    let d : ls ≡ p .before = p .are ∙ ap (λ (z : List RenderLine). p .before ++ z) n ∙ append-nil (p .before) in
+    record {
+      last-is = last-found s from to at last ls (p .before) e d (p .last-is);
+      count-is = p .counts ∙ ap length (sym d);
+      plain = λ k. ap (λ (z : List RenderLine). all unholed z) d ∙ p .bare k;
+    }
 
 -- No field is found before the second place: there are no lines then.
-pub passes-broken : (s : List ℕ) (from to at last count : ℕ) (w : Walked) → Passes s from to at last count → at < to
+pub passes-broken : (s : List ℕ) (from to at last count : ℕ) (holed : Bool) (w : Walked) → Passes s from to at last count holed → at < to
     → fieldAt at (drop at s) ≡ Broken → Walks s from to w
-passes-broken s from to at last count w inv h e ls c = absurd (line-broken s at to _ h (inv ls c .ahead) e)
+passes-broken s from to at last count holed w inv h e ls c = absurd (line-broken s at to _ h (inv ls c .ahead) e)
 
-pub passes-ended : (s : List ℕ) (from to at last count : ℕ) (w : Walked) → Passes s from to at last count → at < to
+pub passes-ended : (s : List ℕ) (from to at last count : ℕ) (holed : Bool) (w : Walked) → Passes s from to at last count holed → at < to
     → fieldAt at (drop at s) ≡ End → Walks s from to w
-passes-ended s from to at last count w inv h e ls c = absurd (line-end s at to _ h (inv ls c .ahead) e)
+passes-ended s from to at last count holed w inv h e ls c = absurd (line-end s at to _ h (inv ls c .ahead) e)
 
 -- numbers of the walk at a place, whatever the bytes
 pub record PassedIn (s : List ℕ) (from to at last count : ℕ) : Type 0 where
@@ -278,9 +324,9 @@ numbers-on s from to at last count l st nx p h f k =
     }
 
 -- At the end.
-pub numbers-end : (s : List ℕ) (from to at last count : ℕ) → PassedIn s from to at last count → to ≤ at
-    → WalkedIn s from to (record { last = last; count = count })
-numbers-end s from to at last count p h =
+pub numbers-end : (s : List ℕ) (from to at last count : ℕ) (holed : Bool) → PassedIn s from to at last count → to ≤ at
+    → WalkedIn s from to (record { last = last; count = count; holed = holed })
+numbers-end s from to at last count holed p h =
     record {
       last-in =
           record {
@@ -295,9 +341,9 @@ numbers-end s from to at last count p h =
     }
 
 -- Where no field is found.
-pub numbers-broken : (s : List ℕ) (from to at last count : ℕ) → PassedIn s from to at last count
-    → WalkedIn s from to (record { last = to; count = count })
-numbers-broken s from to at last count p =
+pub numbers-broken : (s : List ℕ) (from to at last count : ℕ) (holed : Bool) → PassedIn s from to at last count
+    → WalkedIn s from to (record { last = to; count = count; holed = holed })
+numbers-broken s from to at last count holed p =
     record {
       last-in =
           record { high = omega arith; near = omega arith; low = λ h. h; inside = λ h. absurd (omega arith); backwards = λ h. refl };

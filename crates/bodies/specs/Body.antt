@@ -1,14 +1,16 @@
 -- The lines of a cell as it is laid, by their places.
 -- Assumes nothing: these are definitions.
 use mathlib.Core.Path.{_≡_}
-use mathlib.Core.Bool.{Bool}
+use mathlib.Core.Bool.{Bool, true, false}
 use mathlib.Core.Option.{Option, none, some}
 use mathlib.Core.List.{List, [], _∷_}
 use Prim.Native.Nat.{ℕ, _-_, _≤_, _<_}
 use lib.ListN.{length}
-use Rattle.spans.specs.Sheet.{Hole, RenderLine, border}
-use Rattle.spans.specs.Columns.{Slot, columnOf}
-use Rattle.spans.specs.Places.{LinesAt}
+use Rattle.fields.specs.Field.{all}
+use Rattle.fields.specs.Spans.{Hole, RenderLine, border}
+use Rattle.rows.specs.Columns.{Slot, columnOf}
+use Rattle.fields.specs.Places.{LinesAt}
+use Rattle.bodies.specs.Walk.{unholed}
 use Rattle.bodies.specs.declared.body.Body.{Body}
 
 -- numbers that hold whatever the bytes
@@ -31,11 +33,12 @@ abbrev pub BottomAt : List ℕ → ℕ → ℕ → Option (List ℕ) → Type 0
 BottomAt s end stop none = end ≡ stop
 BottomAt s end stop (some segs) = BorderThere s end stop segs
 
--- the lines, how many they are, and the border that was taken off behind them
+-- the lines, how many they are, the border that was taken off behind them, and that no line has holes
 pub record BodyIs (s : List ℕ) (b : Body) (ls : List RenderLine) (bottom : Option (List ℕ)) : Type 0 where
   pub lines-at : LinesAt s (b .at) (b .end) ls
   pub count-is : b .count ≡ length ls
   pub bottom-at : BottomAt s (b .end) (b .stop) bottom
+  pub plain : b .holed ≡ false → all unholed ls ≡ true
 
 -- `body_of`: the column of a cell whose lines stand between two places
 abbrev pub FindsBody : List ℕ → ℕ → ℕ → Bool → Body → Type 0

@@ -1,15 +1,16 @@
 -- What walks over the lines between two places find.
 -- Assumes nothing: these are definitions.
 use mathlib.Core.Path.{_≡_}
+use mathlib.Core.Bool.{Bool, true, false}
 use mathlib.Core.Option.{some}
 use mathlib.Core.List.{List, [], _∷_, _++_}
 use Prim.Native.Nat.{ℕ, _+_, _-_, _≤_, _<_}
 use lib.Dec.{ltb}
 use lib.ListN.{length, drop, getD}
-use Rattle.fields.specs.Field.{whole, part}
-use Rattle.spans.specs.Sheet.{RenderLine, readLine}
-use Rattle.spans.specs.SubRenderer.{startsBorder, withoutTop}
-use Rattle.spans.specs.Places.{LinesAt}
+use Rattle.fields.specs.Field.{whole, all, part}
+use Rattle.fields.specs.Spans.{RenderLine, text, border, readLine}
+use Rattle.rows.specs.SubRenderer.{startsBorder, withoutTop}
+use Rattle.fields.specs.Places.{LinesAt}
 use Rattle.bodies.specs.declared.walk.Walked.{Walked}
 
 -- ---- a first border
@@ -27,6 +28,10 @@ pub record PastTop (s : List ℕ) (from to r : ℕ) (ls : List RenderLine) : Typ
 -- `past_top`
 abbrev pub PassesTop : List ℕ → ℕ → ℕ → ℕ → Type 0
 PassesTop s from to r = (ls : List RenderLine) → LinesAt s from to ls → PastTop s from to r ls
+
+-- `starts_border`
+abbrev pub TellsTop : List ℕ → ℕ → ℕ → Bool → Type 0
+TellsTop s from to r = (ls : List RenderLine) → LinesAt s from to ls → r ≡ startsBorder ls
 
 -- ---- the last line
 
@@ -48,15 +53,27 @@ pub record LastIn (s : List ℕ) (from to r : ℕ) : Type 0 where
 abbrev pub FindsLast : List ℕ → ℕ → ℕ → ℕ → Type 0
 FindsLast s from to r = (ls : List RenderLine) → LinesAt s from to ls → LastLine s from to r ls
 
+-- a line without holes
+abbrev pub unholed : RenderLine → Bool
+unholed (text ps) = true
+unholed (border a segs []) = true
+unholed (border a segs (h ∷ hs)) = false
+
 -- numbers of `walk_lines`, whatever the bytes
 pub record WalkedIn (s : List ℕ) (from to : ℕ) (w : Walked) : Type 0 where
   pub last-in : LastIn s from to (w .last)
   pub few : w .count ≤ to - from
   pub some-there : w .last < to → 1 ≤ w .count
 
+-- the last of some lines, how many they are, and that none has holes
+pub record WalkIs (s : List ℕ) (from to : ℕ) (w : Walked) (ls : List RenderLine) : Type 0 where
+  pub last-is : LastLine s from to (w .last) ls
+  pub count-is : w .count ≡ length ls
+  pub plain : w .holed ≡ false → all unholed ls ≡ true
+
 -- `walk_lines`
 abbrev pub Walks : List ℕ → ℕ → ℕ → Walked → Type 0
-Walks s from to w = (ls : List RenderLine) → LinesAt s from to ls → LastLine s from to (w .last) ls × (w .count ≡ length ls)
+Walks s from to w = (ls : List RenderLine) → LinesAt s from to ls → WalkIs s from to w ls
 
 -- ---- the lines from a number on
 

@@ -4,13 +4,14 @@ use crate::walk::walk_lines;
 ghost use Prim.Native.Nat.{_≤_};
 ghost use Rattle.bodies.specs.Body.{BodyIn, FindsBody};
 
-// Where a cell's lines begin and end, the place after the cell, and how many lines there are: behind the lines stands the last border
-// that was taken off, if there was one.
+// Where a cell's lines begin and end, the place after the cell, how many lines there are, and whether one of them, or the last border
+// that was taken off and stands behind them, has holes.
 pub struct Body {
     pub at: usize,
     pub end: usize,
     pub stop: usize,
     pub count: usize,
+    pub holed: bool,
 }
 
 // A cell's lines: with collapsing without a first border, and then without a last one.
@@ -26,6 +27,7 @@ pub fn body_of(s: &[u8], at: usize, end: usize, collapse: bool) -> Body
             end,
             stop: end,
             count: w.count,
+            holed: w.holed,
         };
     }
     let from = past_top(s, at, end);
@@ -38,6 +40,7 @@ pub fn body_of(s: &[u8], at: usize, end: usize, collapse: bool) -> Body
                 end: last,
                 stop: end,
                 count: w.count - 1,
+                holed: w.holed,
             };
         }
     }
@@ -46,5 +49,6 @@ pub fn body_of(s: &[u8], at: usize, end: usize, collapse: bool) -> Body
         end,
         stop: end,
         count: w.count,
+        holed: w.holed,
     }
 }

@@ -19,9 +19,9 @@ use Rattle.fields.specs.Walk.{pieceRefusal}
 use Rattle.fields.specs.Widths.{text-width, piece-width}
 use Rattle.fields.proofs.First.{first-assoc, first-one, first-zero, one-first}
 use Rattle.fields.proofs.Texts.{rest}
-use Rattle.spans.specs.Sheet.{Hole, hole, RawHole, punched, torn, rawHolesF, rawHoles, readHole, readHoles, holed, readHoled, readLine, readableLine}
-use Rattle.spans.specs.Refusals.{judgedHole, holeRefusal, holesRefusal, lineRefusal}
-use Rattle.spans.proofs.Refusing.{holed-line}
+use Rattle.fields.specs.Spans.{Hole, hole, RawHole, punched, torn, rawHolesF, rawHoles, readHole, readHoles, holed, readHoled, readLine, readableLine}
+use Rattle.fields.specs.SpanRefusals.{judgedHole, holeRefusal, holesRefusal, lineRefusal}
+use Rattle.rows.proofs.Refusing.{holed-line}
 use Rattle.places.proofs.HoleLaws.{holes-nil}
 use Rattle.checks.specs.Walk.{pastRefusal}
 

@@ -17,9 +17,9 @@ use Rattle.fields.specs.Walk.{pieceRefusal, lineRefusal as baseRefusal}
 use Rattle.fields.proofs.First.{first-zero, one-first}
 use Rattle.fields.proofs.Sheets.{pieces-all, mapped, two-after}
 use Rattle.fields.proofs.Texts.{rest}
-use Rattle.spans.specs.Sheet.{RenderLine, text, border, hanging, cell, readLine, isSpan, readHanging, readCell, readPlainCell, readableLine, readableLines}
-use Rattle.spans.specs.Refusals.{lineRefusal, linesRefusal, judgedHanging, hangingRefusal, judgedCell, cellRefusal, plainCellRefusal}
-use Rattle.spans.proofs.Refusing.{lines-all}
+use Rattle.fields.specs.Spans.{RenderLine, text, border, hanging, cell, readLine, isSpan, readHanging, readCell, readPlainCell, readableLine, readableLines}
+use Rattle.fields.specs.SpanRefusals.{lineRefusal, linesRefusal, judgedHanging, hangingRefusal, judgedCell, cellRefusal, plainCellRefusal}
+use Rattle.rows.proofs.Refusing.{lines-all}
 use Rattle.checks.specs.Walk.{bodyRefusal, refusalIn}
 use Rattle.checks.specs.declared.walk.Kind.{Kind}
 use Rattle.checks.specs.declared.walk.Kind.the-variants.{Cells, Plain, Hanging as Hangs}

@@ -15,14 +15,13 @@ use Rattle.fields.specs.First.{refusalOf}
 use Rattle.fields.specs.Sheet.{upTo16}
 use Rattle.fields.proofs.Back.{Every}
 use Rattle.fields.proofs.Readings.{read-first, read-on, read-size}
-use Rattle.rows.proofs.Reading.{some-of}
-use Rattle.spans.specs.Sheet.{Sheet, Cell, readSheet, readCellContent, readSpanContent, readCell, readCells, readPlainCell, readPlainCells, wideHanging, wide, readableSheet, readableCell}
-use Rattle.spans.specs.Refusals.{cellsRefusal, plainCellsRefusal}
-use Rattle.spans.specs.Places.{CellsFrom}
-use Rattle.spans.specs.Answer.{sheetRefusal}
-use Rattle.spans.proofs.Sound.{FineSheet, FineCell}
-use Rattle.spans.proofs.Reading.{GoodCell, sheet-reads, sheet-from, cells-reads, plain-reads, cells-from}
-use Rattle.spans.proofs.Back.{GoodSheet}
+use Rattle.rows.proofs.Reading.{some-of, GoodCell, sheet-reads, sheet-from, cells-reads, plain-reads, cells-from}
+use Rattle.fields.specs.Spans.{Sheet, Cell, readSheet, readCellContent, readSpanContent, readCell, readCells, readPlainCell, readPlainCells, wideHanging, wide, readableSheet, readableCell}
+use Rattle.fields.specs.SpanRefusals.{cellsRefusal, plainCellsRefusal}
+use Rattle.fields.specs.Places.{CellsFrom}
+use Rattle.rows.specs.Answer.{sheetRefusal}
+use Rattle.rows.specs.Fine.{FineSheet, FineCell}
+use Rattle.fields.proofs.SpansBack.{GoodSheet}
 
 -- no refusal: both tests are passed
 two-tests : (w x : Bool) → _≡_ {A = ℕ} (if not w then 2 else if x then 0 else 3) 0 → (w ≡ true) × (x ≡ true)

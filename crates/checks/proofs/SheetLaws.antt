@@ -18,10 +18,10 @@ use Rattle.fields.proofs.Fields.{raws-cons}
 use Rattle.fields.proofs.Readings.{read-size}
 use Rattle.fields.proofs.Sheets.{Headed, head-left, sized, too-many, not-too-many}
 use Rattle.fields.proofs.Texts.{rest}
-use Rattle.spans.specs.Sheet.{RenderLine, Hanging, Sheet, sheetOf, readLine, readHanging, beforeHanging, fromHanging, counted, readHeaded, readSheet, readCell, readCells, readPlainCell, readPlainCells, wide, readableCell}
-use Rattle.spans.specs.Refusals.{linesRefusal, hangingRefusal, overhangRefusal, cellRefusal, plainCellRefusal, cellsRefusal, plainCellsRefusal}
-use Rattle.spans.specs.Answer.{sheetRefusal}
-use Rattle.spans.proofs.Refusing.{sheet-walk, sheet-miscounts, cells-all, plain-cells-all}
+use Rattle.fields.specs.Spans.{RenderLine, Hanging, Sheet, sheetOf, readLine, readHanging, beforeHanging, fromHanging, counted, readHeaded, readSheet, readCell, readCells, readPlainCell, readPlainCells, wide, readableCell}
+use Rattle.fields.specs.SpanRefusals.{linesRefusal, hangingRefusal, overhangRefusal, cellRefusal, plainCellRefusal, cellsRefusal, plainCellsRefusal}
+use Rattle.rows.specs.Answer.{sheetRefusal}
+use Rattle.rows.proofs.Refusing.{sheet-walk, sheet-miscounts, cells-all, plain-cells-all}
 use Rattle.checks.specs.Split.{SplitAt, FindsHanging, countedRefusal}
 use Rattle.checks.specs.declared.sheet.Split.{Split}
 

@@ -14,7 +14,7 @@ use Rattle.fields.specs.Field.{Raw, whole, broken, raws, fieldAt, part}
 use Rattle.fields.specs.declared.field.Field.the-variants.{At, Broken}
 use Rattle.fields.proofs.Fields.{field-is, raws-nil}
 use Rattle.fields.proofs.Parts.{drop-take}
-use Rattle.spans.specs.Sheet.{beforeHanging, fromHanging}
+use Rattle.fields.specs.Spans.{beforeHanging, fromHanging}
 use Rattle.checks.specs.Split.{SplitAt}
 
 -- ---- a field that lies in a part

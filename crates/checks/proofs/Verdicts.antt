@@ -15,12 +15,11 @@ use Rattle.fields.specs.Sheet.{readPrefixes}
 use Rattle.fields.specs.Refusals.{prefixesRefusal}
 use Rattle.fields.specs.Text.{readableText}
 use Rattle.fields.proofs.First.{one-first, first-one}
-use Rattle.rows.specs.Answer.{widthRefusal}
+use Rattle.rows.specs.Answer.{widthRefusal, Verdict, refused, sheetRefusal, orMisfit, handedOn, noWidthHung, noWidth, subrenderVerdict, columnsVerdict, vertRowVerdict}
 use Rattle.rows.specs.declared.RenderOptions.{RenderOptions}
-use Rattle.spans.specs.Sheet.{Sheet, Cell, readSheet, readCells, readPlainCells, wideHanging, wide, readableSheet, readableCell}
-use Rattle.spans.specs.SubRenderer.{append-subrender, append-columns-with-borders, noBorderAbove, append-vert-row}
-use Rattle.spans.specs.Refusals.{cellsRefusal, plainCellsRefusal}
-use Rattle.spans.specs.Answer.{Verdict, refused, sheetRefusal, orMisfit, handedOn, noWidthHung, noWidth, subrenderVerdict, columnsVerdict, vertRowVerdict}
+use Rattle.fields.specs.Spans.{Sheet, Cell, readSheet, readCells, readPlainCells, wideHanging, wide, readableSheet, readableCell}
+use Rattle.rows.specs.SubRenderer.{append-subrender, append-columns-with-borders, noBorderAbove, append-vert-row}
+use Rattle.fields.specs.SpanRefusals.{cellsRefusal, plainCellsRefusal}
 
 -- ---- numbers and tests
 

@@ -9,9 +9,9 @@ use lib.ListN.{length, take, drop}
 use Rattle.characters.specs.If.{if_then_else_}
 use Rattle.fields.specs.Field.{Raw, raws, part}
 use Rattle.fields.specs.First.{firstOf}
-use Rattle.spans.specs.Sheet.{Sheet, beforeHanging, fromHanging, readSheet}
-use Rattle.spans.specs.Refusals.{linesRefusal, overhangRefusal}
-use Rattle.spans.specs.Places.{LinesAt, HungFrom}
+use Rattle.fields.specs.Spans.{Sheet, beforeHanging, fromHanging, readSheet}
+use Rattle.fields.specs.SpanRefusals.{linesRefusal, overhangRefusal}
+use Rattle.fields.specs.Places.{LinesAt, HungFrom}
 use Rattle.checks.specs.declared.sheet.Split.{Split}
 
 -- the fields before the first V, and those from it on

@@ -6,7 +6,7 @@ use lib.Dec.{leb, eqb}
 use Rattle.characters.specs.If.{if_then_else_}
 use Rattle.fields.specs.Field.{Raw, raws}
 use Rattle.fields.specs.First.{firstOf}
-use Rattle.spans.specs.Refusals.{linesRefusal, hangingRefusal, cellRefusal, plainCellRefusal}
+use Rattle.fields.specs.SpanRefusals.{linesRefusal, hangingRefusal, cellRefusal, plainCellRefusal}
 use Rattle.checks.specs.declared.walk.Kind.{Kind}
 use Rattle.checks.specs.declared.walk.Kind.the-variants.{Cells, Plain, Hanging}
 

@@ -3,7 +3,7 @@ use crate::walk::Kind;
 use crate::walk::fields_refusal;
 use fields::walk::count_fields;
 ghost use mathlib.Core.Path.{_≡_};
-ghost use Rattle.spans.specs.Refusals.{cellsRefusal, plainCellsRefusal};
+ghost use Rattle.fields.specs.SpanRefusals.{cellsRefusal, plainCellsRefusal};
 
 // The refusal of a list of C and K fields, in the order 1, 2, 3; 0 where it passes.
 pub fn cells_refusal(s: &[u8]) -> u8

@@ -10,8 +10,8 @@ ghost use mathlib.Core.Path.{_≡_};
 ghost use Prim.Native.Nat.{_<_};
 ghost use lib.ListN.{length, drop};
 ghost use Rattle.fields.specs.Field.{whole};
-ghost use Rattle.spans.specs.Sheet.{punched, rawHoles};
-ghost use Rattle.spans.specs.Refusals.{holeRefusal, holesRefusal, lineRefusal};
+ghost use Rattle.fields.specs.Spans.{punched, rawHoles};
+ghost use Rattle.fields.specs.SpanRefusals.{holeRefusal, holesRefusal, lineRefusal};
 ghost use Rattle.checks.specs.Walk.{pastRefusal};
 
 // Refusal 1 for a hole that ends past the last segment.

@@ -10,7 +10,7 @@ ghost use mathlib.Core.Path.{_≡_};
 ghost use Prim.Native.Nat.{_<_};
 ghost use lib.ListN.{length};
 ghost use Rattle.fields.specs.Field.{whole, raws};
-ghost use Rattle.spans.specs.Refusals.{lineRefusal, linesRefusal};
+ghost use Rattle.fields.specs.SpanRefusals.{lineRefusal, linesRefusal};
 
 // An L field holds pieces; a B field is a border, and a G field one with holes.
 fn line_refusal(letter: u8, content: &[u8]) -> u8

@@ -8,7 +8,7 @@ use fields::field::first_of;
 use fields::field::wide;
 ghost use mathlib.Core.Path.{_≡_};
 ghost use Rattle.fields.specs.Field.{raws};
-ghost use Rattle.spans.specs.Answer.{sheetRefusal};
+ghost use Rattle.rows.specs.Answer.{sheetRefusal};
 ghost use Rattle.checks.specs.Split.{SplitAt, HangingIn, FindsHanging, countedRefusal};
 
 // Where the fields before the first V end, and how many they are.

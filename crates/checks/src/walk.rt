@@ -6,8 +6,8 @@ use fields::field::first_of;
 ghost use mathlib.Core.Path.{_≡_};
 ghost use Rattle.fields.specs.Field.{whole, raws};
 ghost use Rattle.fields.specs.First.{firstOver};
-ghost use Rattle.spans.specs.Sheet.{isSpan};
-ghost use Rattle.spans.specs.Refusals.{hangingRefusal, cellRefusal, plainCellRefusal};
+ghost use Rattle.fields.specs.Spans.{isSpan};
+ghost use Rattle.fields.specs.SpanRefusals.{hangingRefusal, cellRefusal, plainCellRefusal};
 ghost use Rattle.checks.specs.Walk.{bodyRefusal, refusalIn};
 
 // What a list of fields holds: C and K, C alone, or V.

@@ -19,9 +19,9 @@ use Rattle.fields.proofs.Fields.{FieldIs}
 use Rattle.fields.proofs.Sets.{wrote-before}
 use Rattle.block.proofs.Bounds.{length-field}
 use Rattle.rows.proofs.Reading.{some-of, Bytes}
-use Rattle.spans.specs.Sheet.{RenderLine, text, readLine, content, letter as line-letter}
-use Rattle.spans.specs.Answer.{fits}
-use Rattle.spans.proofs.Same.{line-same}
+use Rattle.fields.specs.Spans.{RenderLine, text, readLine, content, letter as line-letter}
+use Rattle.rows.specs.Answer.{fits}
+use Rattle.rows.proofs.Same.{line-same}
 use Rattle.tagged_line.specs.Pieces.{Copies}
 use Rattle.tagged_line.proofs.Laying.{content-size}
 use Rattle.extend_lines.specs.Emitted.{Emitted, InBounds, OneLineMore, CopiesLine, CopiesLines}

@@ -21,15 +21,14 @@ use Rattle.fields.specs.declared.answer.Rendered.{Rendered}
 use Rattle.fields.specs.declared.answer.Rendered.the-variants.{Sheet, Refused, StoreShort}
 use Rattle.fields.specs.Widths.{width}
 use Rattle.fields.proofs.Sets.{sets-append, sets-before, sets-fits, wrote-then, wrote-before}
-use Rattle.borders.specs.BorderHoriz.{stretch-to, to-string, drawn}
+use Rattle.borders.specs.BorderHoriz.{stretch-to, to-string, drawn, into-tagged-from, border-into-tagged-line}
 use Rattle.borders.proofs.Drawing.{drawn-string}
 use Rattle.rows.specs.declared.RenderOptions.{RenderOptions}
-use Rattle.rows.specs.TaggedLine.{join, push-str, pad-to}
+use Rattle.fields.specs.TaggedLine.{join, push-str, pad-to}
 use Rattle.rows.proofs.Reading.{Bytes}
-use Rattle.spans.specs.Sheet.{RenderLine, text, Hanging, sheetOf, readHanging, content, letter, linesBytes, overhangBytes, sheetBytes}
-use Rattle.spans.specs.BorderHoriz.{into-tagged-from, border-into-tagged-line}
-use Rattle.spans.specs.SubRenderer.{padded, plainBorder}
-use Rattle.spans.specs.Answer.{refused, give, fits, fitsHanging, finished}
+use Rattle.fields.specs.Spans.{RenderLine, text, Hanging, sheetOf, readHanging, content, letter, linesBytes, overhangBytes, sheetBytes}
+use Rattle.rows.specs.SubRenderer.{padded, plainBorder}
+use Rattle.rows.specs.Answer.{refused, give, fits, fitsHanging, finished}
 use Rattle.tagged_line.specs.Held.{Held, Within, LineGrown, newLine, Pads, Draws}
 use Rattle.tagged_line.specs.declared.line.Line.{Line}
 use Rattle.extend_lines.specs.Emitted.{allFit, bodyBytes, Emitted, InBounds, LineBegun, noLines, FinishesLine, AddsTextLine, PutsBorder, AddsBorder, HandsOn, Stands, Finishes}

@@ -17,11 +17,10 @@ use Rattle.fields.specs.Store.{Wrote}
 use Rattle.fields.proofs.Back.{Every}
 use Rattle.fields.proofs.Sets.{sets-append}
 use Rattle.block.proofs.Bounds.{length-field}
-use Rattle.rows.proofs.Reading.{OnSome, some-of, Bytes, bytes-take, bytes-drop, OfBytes, two-back, splits, Same, each, SameAll, same-all, from-same}
-use Rattle.spans.specs.Sheet.{RenderLine, Hanging, hanging, readLine, isSpan, readHangingContent, readHanging, linesBytes, hangingContent, overhangBytes}
-use Rattle.spans.specs.Answer.{fitsHanging}
-use Rattle.spans.proofs.Sound.{on-map}
-use Rattle.spans.proofs.Same.{lines-same, hangingBytes}
+use Rattle.rows.proofs.Reading.{OnSome, some-of, Bytes, bytes-take, bytes-drop, OfBytes, two-back, splits, Same, each, SameAll, same-all, from-same, on-map}
+use Rattle.fields.specs.Spans.{RenderLine, Hanging, hanging, readLine, isSpan, readHangingContent, readHanging, linesBytes, hangingContent, overhangBytes}
+use Rattle.rows.specs.Answer.{fitsHanging}
+use Rattle.rows.proofs.Same.{lines-same, hangingBytes}
 
 -- ---- bytes
 

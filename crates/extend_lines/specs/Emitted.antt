@@ -12,9 +12,9 @@ use Rattle.fields.specs.Sheet.{Piece}
 use Rattle.fields.specs.Answer.{inStore, rendered}
 use Rattle.fields.specs.declared.answer.Rendered.{Rendered}
 use Rattle.rows.specs.declared.RenderOptions.{RenderOptions}
-use Rattle.spans.specs.Sheet.{RenderLine, text, Hanging, sheetOf, readLine, readHanging, linesBytes, overhangBytes, sheetBytes}
-use Rattle.spans.specs.SubRenderer.{padded, plainBorder}
-use Rattle.spans.specs.Answer.{fits, fitsHanging, finished, give}
+use Rattle.fields.specs.Spans.{RenderLine, text, Hanging, sheetOf, readLine, readHanging, linesBytes, overhangBytes, sheetBytes}
+use Rattle.rows.specs.SubRenderer.{padded, plainBorder}
+use Rattle.rows.specs.Answer.{fits, fitsHanging, finished, give}
 use Rattle.tagged_line.specs.Held.{Held}
 use Rattle.tagged_line.specs.declared.line.Line.{Line}
 use Rattle.extend_lines.specs.declared.lines.Lines.{Lines}

@@ -15,12 +15,11 @@ use Rattle.fields.specs.Field.{whole, part, all}
 use Rattle.fields.specs.Sheet.{Piece, str, readPiece, readablePiece}
 use Rattle.fields.specs.Widths.{piece-width}
 use Rattle.fields.proofs.Parts.{part-length}
-use Rattle.borders.specs.BorderHoriz.{stretch-to, to-string}
-use Rattle.rows.specs.TaggedLine.{push-str, push}
+use Rattle.borders.specs.BorderHoriz.{stretch-to, to-string, as-str, sliceable, upToHole, atHole, into-tagged-from}
+use Rattle.fields.specs.TaggedLine.{push-str, push}
 use Rattle.rows.proofs.Lines.{push-twice}
-use Rattle.spans.specs.Sheet.{Hole, hole, endsWithin, readableHole}
-use Rattle.spans.specs.BorderHoriz.{as-str, sliceable, upToHole, atHole, into-tagged-from}
-use Rattle.spans.specs.Columns.{overlaps, holedText}
+use Rattle.fields.specs.Spans.{Hole, hole, endsWithin, readableHole}
+use Rattle.rows.specs.Columns.{overlaps, holedText}
 use Rattle.places.specs.Hole.{RawAt, FirstHole}
 use Rattle.places.specs.Border.{BorderAt}
 use Rattle.places.specs.declared.hole.HoleAt.the-variants.{Broken, End}

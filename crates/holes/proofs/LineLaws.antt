@@ -19,13 +19,12 @@ use Rattle.fields.proofs.Parts.{part-length}
 use Rattle.fields.proofs.Back.{Every}
 use Rattle.fields.proofs.Fields.{raws-nil}
 use Rattle.fields.proofs.Readings.{read-none, read-size}
-use Rattle.borders.specs.BorderHoriz.{stretch-to, to-string}
-use Rattle.rows.specs.TaggedLine.{WellFormedPiece, join, push-str, push, push-ws, pad-to}
+use Rattle.borders.specs.BorderHoriz.{stretch-to, to-string, upToHole, into-tagged-from, border-into-tagged-line}
+use Rattle.fields.specs.TaggedLine.{WellFormedPiece, join, push-str, push, push-ws, pad-to}
 use Rattle.rows.proofs.Reading.{OnSome, some-of, every-from}
 use Rattle.rows.proofs.Lines.{push-width, spaces-formed, spaces-width}
-use Rattle.spans.specs.Sheet.{Hole, hole, RawHole, punched, torn, rawHolesF, rawHoles, readHole, readHoles, RenderLine, text, border, endsWithin, holed, readHoled, readBorder, readLine}
-use Rattle.spans.specs.BorderHoriz.{upToHole, into-tagged-from, border-into-tagged-line}
-use Rattle.spans.specs.SubRenderer.{filled}
+use Rattle.fields.specs.Spans.{Hole, hole, RawHole, punched, torn, rawHolesF, rawHoles, readHole, readHoles, RenderLine, text, border, endsWithin, holed, readHoled, readBorder, readLine}
+use Rattle.rows.specs.SubRenderer.{filled}
 use Rattle.places.specs.Border.{FindsParts}
 use Rattle.places.specs.declared.border.Parts.{Parts}
 use Rattle.places.proofs.HoleLaws.{hole-end, hole-none}

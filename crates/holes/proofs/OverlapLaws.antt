@@ -12,9 +12,9 @@ use borrow.Author.Tests.{le-leb, lt-leb}
 use Rattle.fields.specs.Field.{whole, part}
 use Rattle.fields.specs.Sheet.{readPiece}
 use Rattle.fields.specs.Widths.{piece-width}
-use Rattle.spans.specs.Sheet.{Hole}
-use Rattle.spans.specs.Places.{HolesFrom}
-use Rattle.spans.specs.Columns.{overlaps}
+use Rattle.fields.specs.Spans.{Hole}
+use Rattle.fields.specs.Places.{HolesFrom}
+use Rattle.rows.specs.Columns.{overlaps}
 use Rattle.places.specs.Hole.{RawAt, FirstHole}
 use Rattle.places.specs.declared.hole.HoleAt.the-variants.{Broken, End}
 use Rattle.places.proofs.HoleLaws.{FoundHole, hole-found, hole-torn, hole-none}

@@ -21,12 +21,11 @@ use Rattle.fields.specs.Widths.{text-width, piece-width}
 use Rattle.fields.proofs.Parts.{part-length}
 use Rattle.fields.proofs.Texts.{rest}
 use Rattle.borders.specs.BorderSegHoriz.{Horiz}
-use Rattle.borders.specs.BorderHoriz.{stretch-to, to-string, drawn}
+use Rattle.borders.specs.BorderHoriz.{stretch-to, to-string, drawn, as-str, upToHole, atHole}
 use Rattle.borders.proofs.Drawing.{drawn-string, drawn-nil}
-use Rattle.rows.specs.TaggedLine.{push-str, push, addPiece, addPieces}
+use Rattle.fields.specs.TaggedLine.{push-str, push, addPiece, addPieces}
 use Rattle.rows.proofs.Reading.{OnSome, some-of}
 use Rattle.rows.proofs.Lines.{text-width-nil, readable-formed}
-use Rattle.spans.specs.BorderHoriz.{as-str, upToHole, atHole}
 use Rattle.tagged_line.specs.Held.{Held, Pushes, Draws}
 use Rattle.tagged_line.specs.Pieces.{AddsPieces}
 use Rattle.tagged_line.specs.declared.line.Line.{Line}

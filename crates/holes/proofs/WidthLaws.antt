@@ -19,13 +19,12 @@ use Rattle.fields.proofs.Back.{Every}
 use Rattle.fields.proofs.Fields.{FieldIs}
 use Rattle.fields.proofs.Parts.{part-length}
 use Rattle.fields.proofs.Readings.{read-first, read-none}
-use Rattle.borders.specs.BorderHoriz.{to-string, glyph, drawn}
+use Rattle.borders.specs.BorderHoriz.{to-string, glyph, drawn, upToHole, atHole, into-tagged-from}
 use Rattle.borders.proofs.Drawing.{drawn-string, drawn-chars}
-use Rattle.block.specs.Demands.{WellFormed}
-use Rattle.rows.specs.TaggedLine.{WellFormedPiece, push-str, push, addPiece}
+use Rattle.fields.specs.Text.{WellFormed}
+use Rattle.fields.specs.TaggedLine.{WellFormedPiece, push-str, push, addPiece}
 use Rattle.rows.proofs.Lines.{push-width, push-formed, add-width, add-formed, readable-formed}
-use Rattle.spans.specs.Sheet.{Hole, endsWithin, readableHole}
-use Rattle.spans.specs.BorderHoriz.{upToHole, atHole, into-tagged-from}
+use Rattle.fields.specs.Spans.{Hole, endsWithin, readableHole}
 use Rattle.places.specs.Hole.{RawAt}
 use Rattle.places.specs.declared.hole.HoleAt.the-variants.{Broken, End}
 use Rattle.places.proofs.HoleLaws.{FoundHole, hole-torn, hole-none}
@@ -134,10 +133,12 @@ last-few pos end n r h e = omega arith
 
 -- ---- it is the columns of `into_tagged_line`
 
-string-width : (b : List ℕ) → text-width (to-string b) ≡ length b
+-- A border's text has a column for each segment.
+pub string-width : (b : List ℕ) → text-width (to-string b) ≡ length b
 string-width b = ap text-width (sym (drawn-string b)) ∙ drawn-width false b
 
-string-formed : (b : List ℕ) → WellFormed (to-string b)
+-- It is well-formed.
+pub string-formed : (b : List ℕ) → WellFormed (to-string b)
 string-formed b = (map (glyph false) b, ap chars (sym (drawn-string b)) ∙ drawn-chars false b)
 
 pub formed : (q : Piece) → readablePiece q ≡ true → WellFormedPiece q
@@ -145,10 +146,11 @@ formed (str a t) e = readable-formed false t e
 formed (fragment n) e = tt
 
 -- a line of well-formed pieces that has so many columns
-abbrev Wide : ℕ → List Piece → Type 0
+abbrev pub Wide : ℕ → List Piece → Type 0
 Wide n l = Every WellFormedPiece l × (width l ≡ n)
 
-up-to-wide : (a : ℕ) (segs : List ℕ) (l : List Piece) (pos place : ℕ) → Wide pos l → place ≤ length segs → Wide (atHole pos place) (upToHole a segs l pos place)
+-- The segments up to a hole bring a line to its place.
+pub up-to-wide : (a : ℕ) (segs : List ℕ) (l : List Piece) (pos place : ℕ) → Wide pos l → place ≤ length segs → Wide (atHole pos place) (upToHole a segs l pos place)
 up-to-wide a segs l pos place (f, e) h =
     ⊎-elim
     (λ k. rw (lt-ltb pos place k) (

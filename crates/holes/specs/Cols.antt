@@ -10,12 +10,11 @@ use lib.ListN.{length}
 use Rattle.fields.specs.Field.{whole, all}
 use Rattle.fields.specs.Sheet.{Piece, readPiece, readablePiece}
 use Rattle.fields.specs.Widths.{piece-width, width}
-use Rattle.borders.specs.BorderHoriz.{stretch-to}
-use Rattle.rows.specs.TaggedLine.{pad-to}
+use Rattle.borders.specs.BorderHoriz.{stretch-to, atHole, into-tagged-from}
+use Rattle.fields.specs.TaggedLine.{pad-to}
 use Rattle.rows.specs.declared.RenderOptions.{RenderOptions}
-use Rattle.spans.specs.Sheet.{Hole, RenderLine, readLine, readableHole, readableLine}
-use Rattle.spans.specs.BorderHoriz.{atHole, into-tagged-from}
-use Rattle.spans.specs.SubRenderer.{into-tagged-line, filled}
+use Rattle.fields.specs.Spans.{Hole, RenderLine, readLine, readableHole, readableLine}
+use Rattle.rows.specs.SubRenderer.{into-tagged-line, filled}
 use Rattle.places.specs.Border.{BorderAt}
 use Rattle.tagged_line.specs.Pieces.{PiecesOf}
 use Rattle.holes.specs.Drawing.{Fits}

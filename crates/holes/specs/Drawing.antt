@@ -8,12 +8,11 @@ use Prim.Native.Nat.{ℕ, _+_, _-_, _*_, _≤_}
 use lib.ListN.{length}
 use Rattle.fields.specs.Field.{whole, raws, part, all}
 use Rattle.fields.specs.Sheet.{Piece, str, readPiece, readablePiece}
-use Rattle.borders.specs.BorderHoriz.{stretch-to, to-string}
-use Rattle.rows.specs.TaggedLine.{push-str, push}
-use Rattle.spans.specs.Sheet.{Hole, hole, endsWithin, readableHole}
-use Rattle.spans.specs.BorderHoriz.{as-str, into-tagged-from}
-use Rattle.spans.specs.Columns.{overlaps, holedText}
-use Rattle.spans.specs.Places.{HolesFrom}
+use Rattle.borders.specs.BorderHoriz.{stretch-to, to-string, as-str, into-tagged-from}
+use Rattle.fields.specs.TaggedLine.{push-str, push}
+use Rattle.fields.specs.Spans.{Hole, hole, endsWithin, readableHole}
+use Rattle.rows.specs.Columns.{overlaps, holedText}
+use Rattle.fields.specs.Places.{HolesFrom}
 use Rattle.places.specs.Border.{BorderAt}
 use Rattle.tagged_line.specs.Held.{Held}
 use Rattle.tagged_line.specs.declared.line.Line.{Line}

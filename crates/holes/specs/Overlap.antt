@@ -5,9 +5,9 @@ use mathlib.Core.Bool.{Bool}
 use mathlib.Core.List.{List}
 use Prim.Native.Nat.{ℕ}
 use lib.ListN.{length}
-use Rattle.spans.specs.Sheet.{Hole}
-use Rattle.spans.specs.Places.{HolesFrom}
-use Rattle.spans.specs.Columns.{overlaps}
+use Rattle.fields.specs.Spans.{Hole}
+use Rattle.fields.specs.Places.{HolesFrom}
+use Rattle.rows.specs.Columns.{overlaps}
 
 -- `overlaps`: of a border of so many segments whose holes stand from a place of the content on
 abbrev pub FindsOverlap : List ℕ → ℕ → ℕ → Bool → Type 0

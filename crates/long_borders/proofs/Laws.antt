@@ -13,11 +13,9 @@ use lib.Seq.{drop-cons, take-all, take-take, take-append-le, take-append-add, ta
 use Rattle.characters.specs.If.{if_then_else_}
 use Rattle.characters.proofs.Tests.{lt-or-le}
 use Rattle.borders.specs.declared.border.Side.{Side}
-use Rattle.borders.specs.BorderSegHoriz.{Horiz}
-use Rattle.borders.specs.BorderHoriz.{new-type, stretch-to, change, joinedOn, joinsFrom, join-on, merge-from}
+use Rattle.borders.specs.BorderSegHoriz.{Horiz, chop-left, chop-right}
+use Rattle.borders.specs.BorderHoriz.{new-type, stretch-to, change, joinedOn, joinsFrom, join-on, merge-from, chopBefore, cutFor}
 use Rattle.borders.proofs.Buffers.{merge-cons, merge-starts as starts, merge-ends as ends}
-use Rattle.spans.specs.BorderSegHoriz.{chop-left, chop-right}
-use Rattle.spans.specs.BorderHoriz.{chopBefore, cutFor}
 use Rattle.long_borders.specs.Keeps.{Near, Keeps, Fills, Copies, Stretches, NearIn, Changes, ChopsBefore, Cuts, JoinsOn, MergesFrom}
 
 -- ---- positions

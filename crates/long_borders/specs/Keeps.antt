@@ -6,8 +6,7 @@ use mathlib.Core.List.{List}
 use Prim.Native.Nat.{ℕ, _+_, _≤_}
 use lib.ListN.{length, take}
 use Rattle.borders.specs.declared.border.Side.{Side}
-use Rattle.borders.specs.BorderHoriz.{new-type, stretch-to, change, join-on, merge-from}
-use Rattle.spans.specs.BorderHoriz.{chopBefore, cutFor}
+use Rattle.borders.specs.BorderHoriz.{new-type, stretch-to, change, join-on, merge-from, chopBefore, cutFor}
 
 -- two positions are equal, or both lie past every border that fits a field
 abbrev pub Near : ℕ → ℕ → Type 0

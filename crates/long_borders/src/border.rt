@@ -10,7 +10,7 @@ ghost use mathlib.Core.Path.{_≡_};
 ghost use Prim.Native.Nat.{_+_, _^_, _≤_, _<_, min, max};
 ghost use lib.ListN.{length};
 ghost use Rattle.borders.specs.BorderHoriz.{joinedOn, joinsFrom};
-ghost use Rattle.spans.specs.BorderSegHoriz.{chop-left, chop-right};
+ghost use Rattle.borders.specs.BorderSegHoriz.{chop-left, chop-right};
 ghost use Rattle.long_borders.specs.Keeps.{Fills, Copies, Stretches, Changes, ChopsBefore, JoinsOn, MergesFrom, Cuts};
 
 // The lesser of two numbers.

@@ -17,13 +17,13 @@ use Rattle.fields.proofs.Parts.{part-length}
 use Rattle.fields.proofs.Sets.{wrote-then, wrote-before}
 use Rattle.block.proofs.Bounds.{length-field}
 use Rattle.borders.specs.BorderHoriz.{stretch-to}
-use Rattle.rows.specs.TaggedLine.{pad-to}
+use Rattle.fields.specs.TaggedLine.{pad-to}
 use Rattle.rows.specs.declared.RenderOptions.{RenderOptions}
 use Rattle.rows.proofs.Lines.{same-pieces}
 use Rattle.rows.proofs.Reading.{some-of, Bytes, bytes-drop}
-use Rattle.spans.specs.Sheet.{Hole, RenderLine, text, border, rawHoles, readHoles, readLine, holesBytes, content, letter as line-letter}
-use Rattle.spans.specs.SubRenderer.{filled}
-use Rattle.spans.proofs.Same.{holes-same, line-same}
+use Rattle.fields.specs.Spans.{Hole, RenderLine, text, border, rawHoles, readHoles, readLine, holesBytes, content, letter as line-letter}
+use Rattle.rows.specs.SubRenderer.{filled}
+use Rattle.rows.proofs.Same.{holes-same, line-same}
 use Rattle.places.specs.Border.{PartsIn, BorderAt, FindsParts}
 use Rattle.places.specs.declared.border.Parts.{Parts}
 use Rattle.tagged_line.specs.Held.{Held, Within, LineGrown, newLine, Pads}

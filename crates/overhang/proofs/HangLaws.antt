@@ -17,10 +17,10 @@ use Rattle.fields.specs.Store.{Wrote}
 use Rattle.fields.proofs.Sets.{sets-append, sets-past, wrote-then, wrote-before}
 use Rattle.block.proofs.Bounds.{length-field}
 use Rattle.rows.specs.declared.RenderOptions.{RenderOptions}
-use Rattle.spans.specs.Sheet.{RenderLine, Hanging, hanging, linesBytes, hangingContent, overhangBytes}
-use Rattle.spans.specs.SubRenderer.{filled}
-use Rattle.spans.specs.Answer.{fits, fitsHanging}
-use Rattle.spans.specs.Columns.{Slot, columnOf, columnHangs}
+use Rattle.fields.specs.Spans.{RenderLine, Hanging, hanging, linesBytes, hangingContent, overhangBytes}
+use Rattle.rows.specs.SubRenderer.{filled}
+use Rattle.rows.specs.Answer.{fits, fitsHanging}
+use Rattle.rows.specs.Columns.{Slot, columnOf, columnHangs}
 use Rattle.bodies.specs.Body.{FindsBody}
 use Rattle.bodies.specs.Walk.{SkipsTo}
 use Rattle.bodies.specs.declared.body.Body.{Body}

@@ -14,8 +14,8 @@ use Rattle.fields.proofs.Parts.{part-length}
 use Rattle.fields.proofs.Sets.{sets-append}
 use Rattle.block.proofs.Bounds.{length-field}
 use Rattle.rows.specs.declared.RenderOptions.{RenderOptions}
-use Rattle.spans.specs.Sheet.{RenderLine, readableLine, readableLines, content, letter as line-letter, linesBytes}
-use Rattle.spans.specs.SubRenderer.{filled}
+use Rattle.fields.specs.Spans.{RenderLine, readableLine, readableLines, content, letter as line-letter, linesBytes}
+use Rattle.rows.specs.SubRenderer.{filled}
 use Rattle.bodies.proofs.FieldLaws.{found-at}
 use Rattle.bodies.proofs.LineLaws.{first-line, no-lines, line-broken, line-end}
 use Rattle.overhang.specs.Filled.{LineIn, LineStands, PutsFilled, LinesStand, PutsLines}

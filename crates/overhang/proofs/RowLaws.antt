@@ -11,10 +11,10 @@ use Rattle.fields.specs.Field.{field, all}
 use Rattle.fields.proofs.Back.{Every}
 use Rattle.rows.specs.declared.RenderOptions.{RenderOptions}
 use Rattle.rows.proofs.Reading.{Bytes}
-use Rattle.spans.specs.Sheet.{RenderLine, Hanging, Cell, readableCell, readableHanging, linesBytes, hangingContent, overhangBytes}
-use Rattle.spans.specs.Answer.{fits, fitsHanging}
-use Rattle.spans.specs.Places.{HungFrom, CellsFrom}
-use Rattle.spans.specs.Columns.{Slot, rowSlots, columnOf, columnHangs, hangsOf}
+use Rattle.fields.specs.Spans.{RenderLine, Hanging, Cell, readableCell, readableHanging, linesBytes, hangingContent, overhangBytes}
+use Rattle.rows.specs.Answer.{fits, fitsHanging}
+use Rattle.fields.specs.Places.{HungFrom, CellsFrom}
+use Rattle.rows.specs.Columns.{Slot, rowSlots, columnOf, columnHangs, hangsOf}
 use Rattle.slots.specs.Seats.{SlotsIn, SlotsLeft, Begins, FindsNext}
 use Rattle.slots.specs.declared.seat.Seat.{Seat}
 use Rattle.slots.specs.declared.seat.Slots.{Slots}

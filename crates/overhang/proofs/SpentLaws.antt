@@ -17,14 +17,14 @@ use Rattle.fields.specs.Widths.{width}
 use Rattle.fields.proofs.Back.{Every}
 use Rattle.block.proofs.Bounds.{length-field}
 use Rattle.borders.specs.BorderHoriz.{stretch-to}
-use Rattle.rows.specs.TaggedLine.{push-str, push-ws, pad-to}
+use Rattle.fields.specs.TaggedLine.{push-str, push-ws, pad-to}
 use Rattle.rows.specs.declared.RenderOptions.{RenderOptions}
 use Rattle.rows.proofs.Reading.{OnSome, some-of, Bytes, bytes-drop, OfBytes, splits}
-use Rattle.spans.specs.Sheet.{RenderLine, text, border, Hanging, hanging, Cell, cell, isSpan, readLine, readHangingContent, readHanging, readCellContent, readSpanContent, readCell, linesBytes, hangingContent, overhangBytes, content, letter as line-letter}
-use Rattle.spans.specs.SubRenderer.{filled, withoutTop, withoutBottom}
-use Rattle.spans.specs.Answer.{fitsHanging}
-use Rattle.spans.specs.Places.{HungFrom, CellsFrom}
-use Rattle.spans.specs.Columns.{Slot, slot, cellSlots, hungSlot, slotsBefore, slotsAt, nextPos, gapSlot, putSlot, slotsFrom, rowSlots, columnOf, columnHangs}
+use Rattle.fields.specs.Spans.{RenderLine, text, border, Hanging, hanging, Cell, cell, isSpan, readLine, readHangingContent, readHanging, readCellContent, readSpanContent, readCell, linesBytes, hangingContent, overhangBytes, content, letter as line-letter}
+use Rattle.rows.specs.SubRenderer.{filled, withoutTop, withoutBottom}
+use Rattle.rows.specs.Answer.{fitsHanging}
+use Rattle.fields.specs.Places.{HungFrom, CellsFrom}
+use Rattle.rows.specs.Columns.{Slot, slot, cellSlots, hungSlot, slotsBefore, slotsAt, nextPos, gapSlot, putSlot, slotsFrom, rowSlots, columnOf, columnHangs}
 use Rattle.extend_lines.proofs.Handing.{overhang-same}
 use Rattle.overhang.specs.Hang.{Narrow}
 
@@ -104,20 +104,30 @@ unfolding slotsAt
 every-at P pos [] h = tt
 every-at P pos (x ∷ xs) h = by-if (Every P) (ltb (x .pos) pos) (λ _. every-at P pos xs (h .1)) (λ _. h)
 
-narrow-gap : (next pos : ℕ) → Every Narrow (gapSlot next pos)
-narrow-gap next pos = by-if (Every Narrow) (ltb next pos) (λ _. ((λ h. absurd (omega (arith, h))), tt)) (λ _. tt)
+module _ (P : Slot → Type 0) (empty : (next w : ℕ) → P (slot next w 0 1 [])) where
+  every-gap : (next pos : ℕ) → Every P (gapSlot next pos)
+  every-gap next pos = by-if (Every P) (ltb next pos) (λ _. (empty next (pos - (next + 1)), tt)) (λ _. tt)
 
-narrow-put : (v : Hanging) (ys : List Slot) (n : ℕ) → ByteHung v → Every Narrow ys → Every Narrow (putSlot v ys n)
-narrow-put v [] n b h = every-append Narrow (gapSlot n (v .pos)) (hungSlot v ∷ []) (narrow-gap n (v .pos)) ((λ _. b), tt)
-narrow-put v (y ∷ ys) n b h = ((λ _. b), h .1)
+  every-put : (v : Hanging) (ys : List Slot) (n : ℕ) → P (hungSlot v) → Every P ys → Every P (putSlot v ys n)
+  every-put v [] n b h = every-append P (gapSlot n (v .pos)) (hungSlot v ∷ []) (every-gap n (v .pos)) (b, tt)
+  every-put v (y ∷ ys) n b h = (b, h .1)
 
-narrow-from : (vs : List Hanging) (xs : List Slot) (next : ℕ) → Every ByteHung vs → Every Narrow xs → Every Narrow (slotsFrom xs vs next)
-unfolding slotsFrom
-narrow-from [] xs next b h = h
-narrow-from (v ∷ vs) xs next b h =
-    let n = nextPos (v .pos) xs next in
-    every-append Narrow (slotsBefore (v .pos) xs) (slotsFrom (putSlot v (slotsAt (v .pos) xs) n) vs n) (every-before Narrow (v .pos) xs h)
-    (narrow-from vs (putSlot v (slotsAt (v .pos) xs) n) n (b .1) (narrow-put v (slotsAt (v .pos) xs) n (b .0) (every-at Narrow (v .pos) xs h)))
+  every-from : (vs : List Hanging) (xs : List Slot) (next : ℕ) → Every (λ (v : Hanging). P (hungSlot v)) vs → Every P xs → Every P (slotsFrom xs vs next)
+  unfolding slotsFrom
+  every-from [] xs next b h = h
+  every-from (v ∷ vs) xs next b h =
+      let n = nextPos (v .pos) xs next in
+      every-append P (slotsBefore (v .pos) xs) (slotsFrom (putSlot v (slotsAt (v .pos) xs) n) vs n) (every-before P (v .pos) xs h)
+      (every-from vs (putSlot v (slotsAt (v .pos) xs) n) n (b .1) (every-put v (slotsAt (v .pos) xs) n (b .0) (every-at P (v .pos) xs h)))
+
+  -- What holds of the cells, of the V fields and of an empty cell holds of each cell of the row.
+  pub every-row : (vs : List Hanging) (cs : List Cell) → Every (λ (v : Hanging). P (hungSlot v)) vs → Every P (cellSlots 0 cs) → Every P (rowSlots vs cs)
+  unfolding rowSlots
+  every-row vs cs b h = every-from vs (cellSlots 0 cs) 0 b h
+
+narrow-hung : (vs : List Hanging) → Every ByteHung vs → Every (λ (v : Hanging). Narrow (hungSlot v)) vs
+narrow-hung [] b = tt
+narrow-hung (v ∷ vs) b = ((λ _. b .0), narrow-hung vs (b .1))
 
 narrow-cells : (pos : ℕ) (cs : List Cell) → Every ByteCell cs → Every Narrow (cellSlots pos cs)
 unfolding cellSlots
@@ -127,8 +137,8 @@ narrow-cells pos (c ∷ cs) h = ((λ _. h .0), narrow-cells (pos + c .width + 1)
 -- A cell of a row that spans more rows has a width of one byte.
 pub row-narrow : (cells sheet : List ℕ) (from : ℕ) (cs : List Cell) (vs : List Hanging) → Bytes cells → Bytes sheet → CellsFrom cells 0 cs → HungFrom sheet from vs
     → Every Narrow (rowSlots vs cs)
-unfolding rowSlots
-row-narrow cells sheet from cs vs k l c h = narrow-from vs (cellSlots 0 cs) 0 (hung-byte sheet from vs l h) (narrow-cells 0 cs (cells-byte cells 0 cs k c))
+row-narrow cells sheet from cs vs k l c h =
+    every-row Narrow (λ next w m. absurd (omega (arith, m))) vs cs (narrow-hung vs (hung-byte sheet from vs l h)) (narrow-cells 0 cs (cells-byte cells 0 cs k c))
 
 -- ---- the bytes of V fields that are not too long
 

@@ -12,12 +12,12 @@ use Rattle.characters.specs.If.{if_then_else_}
 use Rattle.fields.specs.Field.{two, head, field, whole, all}
 use Rattle.fields.specs.Sheet.{Piece, readablePiece}
 use Rattle.borders.specs.BorderHoriz.{stretch-to}
-use Rattle.rows.specs.TaggedLine.{pad-to}
+use Rattle.fields.specs.TaggedLine.{pad-to}
 use Rattle.rows.specs.declared.RenderOptions.{RenderOptions}
-use Rattle.spans.specs.Sheet.{Hole, RenderLine, text, border, readLine, readableLine, content, letter, linesBytes, readableLines}
-use Rattle.spans.specs.SubRenderer.{filled}
-use Rattle.spans.specs.Places.{LinesAt}
-use Rattle.spans.specs.Answer.{fits}
+use Rattle.fields.specs.Spans.{Hole, RenderLine, text, border, readLine, readableLine, content, letter, linesBytes, readableLines}
+use Rattle.rows.specs.SubRenderer.{filled}
+use Rattle.fields.specs.Places.{LinesAt}
+use Rattle.rows.specs.Answer.{fits}
 use Rattle.tagged_line.specs.Pieces.{PiecesOf}
 
 -- numbers of a line that is put, whatever the bytes: its content had n bytes, and it is filled to a width

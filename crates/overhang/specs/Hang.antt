@@ -8,10 +8,10 @@ use lib.ListN.{length}
 use lib.Seq.{sets}
 use Rattle.fields.specs.Field.{field, all}
 use Rattle.rows.specs.declared.RenderOptions.{RenderOptions}
-use Rattle.spans.specs.Sheet.{RenderLine, Hanging, hanging, Cell, readableLines, readableCell, readableHanging, hangingContent}
-use Rattle.spans.specs.SubRenderer.{filled}
-use Rattle.spans.specs.Columns.{Slot, rowSlots, columnOf, columnHangs, hangsOf}
-use Rattle.spans.specs.Places.{LinesAt, HungFrom, CellsFrom}
+use Rattle.fields.specs.Spans.{RenderLine, Hanging, hanging, Cell, readableLines, readableCell, readableHanging, hangingContent}
+use Rattle.rows.specs.SubRenderer.{filled}
+use Rattle.rows.specs.Columns.{Slot, rowSlots, columnOf, columnHangs, hangsOf}
+use Rattle.fields.specs.Places.{LinesAt, HungFrom, CellsFrom}
 use Rattle.slots.specs.Seats.{SeatIs}
 use Rattle.slots.specs.declared.seat.Seat.{Seat}
 use Rattle.extend_lines.specs.Emitted.{Emitted}

@@ -13,8 +13,8 @@ use borrow.Author.Tests.{leb-true, eq-eqb, ne-eqb}
 use Rattle.characters.proofs.Tests.{by-if, and-left, and-right}
 use Rattle.fields.specs.Field.{Raw, whole, raws, readAll, part, all}
 use Rattle.fields.specs.Sheet.{Piece, readPiece, isSegment}
-use Rattle.spans.specs.Sheet.{Hole, hole, RenderLine, text, border, rawHoles, readHoles, endsWithin, holed, readHoled, readBorder, readLine}
-use Rattle.spans.specs.Places.{HolesFrom}
+use Rattle.fields.specs.Spans.{Hole, hole, RenderLine, text, border, rawHoles, readHoles, endsWithin, holed, readHoled, readBorder, readLine}
+use Rattle.fields.specs.Places.{HolesFrom}
 use Rattle.places.specs.Border.{BorderAt}
 use Rattle.places.proofs.HoleLaws.{holes-nil}
 

@@ -15,9 +15,9 @@ use Rattle.fields.specs.Field.{Raw, whole, raws, both, part}
 use Rattle.fields.specs.Sheet.{Piece, readPiece}
 use Rattle.fields.proofs.Fields.{raws-nil, raws-cons}
 use Rattle.fields.proofs.Parts.{part-length}
-use Rattle.spans.specs.Sheet.{Hole, hole, RawHole, punched, torn, rawHolesF, rawHoles, readHole, readHoles}
-use Rattle.spans.specs.Places.{HolesFrom}
-use Rattle.spans.proofs.Back.{holes-cons}
+use Rattle.fields.specs.Spans.{Hole, hole, RawHole, punched, torn, rawHolesF, rawHoles, readHole, readHoles}
+use Rattle.fields.specs.Places.{HolesFrom}
+use Rattle.fields.proofs.SpansBack.{holes-cons}
 use Rattle.places.specs.Hole.{HoleIn, RawAt, FirstHole}
 use Rattle.places.specs.declared.hole.HoleAt.{HoleAt}
 use Rattle.places.specs.declared.hole.HoleAt.the-variants.{At, Broken, End}

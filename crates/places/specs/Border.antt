@@ -7,8 +7,8 @@ use mathlib.Core.List.{List}
 use Prim.Native.Nat.{ℕ, _≤_}
 use lib.ListN.{length, getD}
 use Rattle.fields.specs.Field.{whole, part, all}
-use Rattle.spans.specs.Sheet.{Hole, border, endsWithin, readLine}
-use Rattle.spans.specs.Places.{HolesFrom}
+use Rattle.fields.specs.Spans.{Hole, border, endsWithin, readLine}
+use Rattle.fields.specs.Places.{HolesFrom}
 use Rattle.places.specs.declared.border.Parts.{Parts}
 
 -- numbers that hold whatever the bytes

@@ -7,8 +7,8 @@ use Prim.Native.Nat.{ℕ, _+_, _≤_, _<_}
 use lib.ListN.{length, drop}
 use Rattle.fields.specs.Field.{whole, part}
 use Rattle.fields.specs.Sheet.{readPiece}
-use Rattle.spans.specs.Sheet.{Hole, punched, torn, rawHoles}
-use Rattle.spans.specs.Places.{HolesFrom}
+use Rattle.fields.specs.Spans.{Hole, punched, torn, rawHoles}
+use Rattle.fields.specs.Places.{HolesFrom}
 use Rattle.places.specs.declared.hole.HoleAt.{HoleAt}
 use Rattle.places.specs.declared.hole.HoleAt.the-variants.{At, Broken, End}
 

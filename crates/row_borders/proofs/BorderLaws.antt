@@ -8,9 +8,8 @@ use Rattle.characters.specs.If.{if_then_else_}
 use Rattle.borders.specs.declared.border.Side.the-variants.{Above, Below}
 use Rattle.borders.specs.BorderSegHoriz.{Horiz}
 use Rattle.borders.specs.BorderHoriz.{new-type, join-on, join-above}
-use Rattle.rows.specs.Columns.{joinAt, totalWidth, joinedAbove}
-use Rattle.spans.specs.Columns.{Slot, columnOf, slotWidths, borderAbove, borderBelow}
-use Rattle.spans.proofs.Columns.{bottoms-none}
+use Rattle.rows.specs.Columns.{joinAt, totalWidth, joinedAbove, Slot, columnOf, slotWidths, borderAbove, borderBelow}
+use Rattle.rows.proofs.Columns.{bottoms-none}
 use Rattle.long_borders.specs.Keeps.{Keeps, Fills, Copies, Stretches}
 use Rattle.seats.specs.declared.keep.Kept.{Kept}
 use Rattle.row_borders.specs.Merge.{MergesSeats}

@@ -9,8 +9,7 @@ use native.Mathlib.Omega.{arith}
 use lib.ListN.{length, drop, getD, drop-of-length-le}
 use Rattle.borders.specs.declared.border.Side.{Side}
 use Rattle.borders.specs.BorderHoriz.{join-on}
-use Rattle.rows.specs.Columns.{joinAt, totalWidth}
-use Rattle.spans.specs.Columns.{Slot, slotWidths}
+use Rattle.rows.specs.Columns.{joinAt, totalWidth, Slot, slotWidths}
 use Rattle.long_borders.specs.Keeps.{Near, Keeps, JoinsOn, Advances}
 use Rattle.long_borders.proofs.Laws.{near-low}
 use Rattle.slots.specs.Seats.{SlotsLeft, FindsNext}

@@ -14,9 +14,9 @@ use Rattle.fields.proofs.Parts.{part-length}
 use Rattle.borders.specs.declared.border.Side.{Side}
 use Rattle.borders.specs.declared.border.Side.the-variants.{Above}
 use Rattle.borders.specs.BorderHoriz.{merge-from}
-use Rattle.spans.specs.Sheet.{Hole, RenderLine, text, border}
-use Rattle.spans.specs.SubRenderer.{isBorder, top}
-use Rattle.spans.specs.Columns.{columnOf}
+use Rattle.fields.specs.Spans.{Hole, RenderLine, text, border}
+use Rattle.rows.specs.SubRenderer.{isBorder, top}
+use Rattle.rows.specs.Columns.{columnOf}
 use Rattle.places.specs.Border.{PartsIn, FindsParts}
 use Rattle.places.specs.declared.border.Parts.{Parts}
 use Rattle.bodies.specs.Body.{FindsBody}

@@ -9,24 +9,18 @@ use lib.ListN.{length, drop, getD, drop-of-length-le}
 use Rattle.borders.specs.declared.border.Side.{Side}
 use Rattle.borders.specs.declared.border.Side.the-variants.{Above, Below}
 use Rattle.borders.specs.BorderHoriz.{merge-from}
-use Rattle.spans.specs.Columns.{Slot, columnOf, topsOf, bottomsOf}
+use Rattle.rows.specs.Columns.{Slot, columnOf, topsOf, bottomsOf}
 use Rattle.long_borders.specs.Keeps.{Keeps, MergesFrom, Advances}
 use Rattle.long_borders.proofs.Laws.{near-refl}
 use Rattle.slots.specs.Seats.{SlotsLeft, FindsNext}
 use Rattle.slots.specs.declared.seat.Seat.{Seat}
 use Rattle.slots.specs.declared.seat.Slots.{Slots}
 use Rattle.slots.specs.declared.seat.Next.the-variants.{Is, NoMore}
-use Rattle.seats.specs.Keep.{slotAt, SeatsAre, KeptIn}
+use Rattle.seats.specs.Keep.{slotAt, SeatsAre}
 use Rattle.seats.specs.declared.keep.Kept.{Kept}
 use Rattle.seats.proofs.Keeping.{kept-on}
-use Rattle.row_borders.specs.Merge.{RowIn, borderFrom, MergesLine, MergesBottom, MergesBorder, MergesSeat, mergedFrom, Merging, MergesKept, MergesRest, MergesSeats}
+use Rattle.row_borders.specs.Merge.{borderFrom, MergesLine, MergesBottom, MergesBorder, MergesSeat, mergedFrom, Merging, MergesKept, MergesRest, MergesSeats}
 use Rattle.row_borders.specs.declared.merge.Merged.{Merged}
-
--- The numbers of the kept seats are those that a border needs.
-pub row-in : (cells sheet at end width to span : List ℕ) (hung : List Bool) (kept : Kept) → KeptIn cells sheet at end width to span hung kept
-    → RowIn cells sheet at end width kept
-row-in cells sheet at end width to span hung kept i =
-    record { few = i .few; narrow = λ k h. i .seats-in k h .narrow; ordered = λ k h. i .seats-in k h .order; rest-in = i .rest-in }
 
 -- ---- one seat
 

@@ -7,8 +7,7 @@ use lib.ListN.{length}
 use Rattle.characters.specs.If.{if_then_else_}
 use Rattle.borders.specs.BorderSegHoriz.{Horiz}
 use Rattle.borders.specs.BorderHoriz.{new-type, join-above}
-use Rattle.rows.specs.Columns.{joinAt}
-use Rattle.spans.specs.Columns.{Slot, columnOf, slotWidths, borderAbove, borderBelow}
+use Rattle.rows.specs.Columns.{joinAt, Slot, columnOf, slotWidths, borderAbove, borderBelow}
 use Rattle.long_borders.specs.Keeps.{Keeps}
 use Rattle.seats.specs.Keep.{RowKept}
 use Rattle.seats.specs.declared.keep.Kept.{Kept}

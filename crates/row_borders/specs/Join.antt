@@ -7,8 +7,7 @@ use Prim.Native.Nat.{ℕ, _+_, _-_, _<_}
 use lib.ListN.{length, getD}
 use Rattle.borders.specs.declared.border.Side.{Side}
 use Rattle.borders.specs.BorderHoriz.{join-on}
-use Rattle.rows.specs.Columns.{joinAt, totalWidth}
-use Rattle.spans.specs.Columns.{Slot, slotWidths}
+use Rattle.rows.specs.Columns.{joinAt, totalWidth, Slot, slotWidths}
 use Rattle.long_borders.specs.Keeps.{Near, Keeps}
 use Rattle.slots.specs.Seats.{SlotsLeft}
 use Rattle.slots.specs.declared.seat.Slots.{Slots}

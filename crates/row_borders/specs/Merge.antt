@@ -3,37 +3,20 @@
 use mathlib.Core.Path.{_≡_}
 use mathlib.Core.Bool.{Bool, true}
 use mathlib.Core.List.{List, _++_, map}
-use Prim.Native.Nat.{ℕ, _≤_, _<_}
-use lib.ListN.{length, getD}
+use Prim.Native.Nat.{ℕ}
+use lib.ListN.{length}
 use Rattle.borders.specs.declared.border.Side.{Side}
 use Rattle.borders.specs.declared.border.Side.the-variants.{Above, Below}
-use Rattle.spans.specs.Sheet.{RenderLine}
-use Rattle.spans.specs.SubRenderer.{top}
-use Rattle.spans.specs.Places.{LinesAt}
-use Rattle.spans.specs.Columns.{Slot, columnOf, bottomOf, topsOf, bottomsOf}
+use Rattle.fields.specs.Spans.{RenderLine}
+use Rattle.rows.specs.SubRenderer.{top}
+use Rattle.fields.specs.Places.{LinesAt}
+use Rattle.rows.specs.Columns.{Slot, columnOf, bottomOf, topsOf, bottomsOf}
 use Rattle.long_borders.specs.Keeps.{Near, Keeps, MergesFrom}
-use Rattle.slots.specs.Seats.{source, SlotsIn, SlotsLeft}
+use Rattle.slots.specs.Seats.{source, SlotsLeft}
 use Rattle.slots.specs.declared.seat.Slots.{Slots}
 use Rattle.seats.specs.Keep.{SeatsAre, RowKept}
 use Rattle.seats.specs.declared.keep.Kept.{Kept}
 use Rattle.row_borders.specs.declared.merge.Merged.{Merged}
-
--- ---- numbers
-
--- no kept seat has a width past that of a filling cell
-abbrev pub AllNarrow : List ℕ → ℕ → Type 0
-AllNarrow width n = (k : ℕ) → k < n → getD width k 0 < 65791
-
--- the lines of each kept seat end behind their start
-abbrev pub AllOrdered : List ℕ → List ℕ → ℕ → Type 0
-AllOrdered at end n = (k : ℕ) → k < n → getD at k 0 ≤ getD end k 0
-
--- the numbers of a row that a border of it needs
-pub record RowIn (cells sheet at end width : List ℕ) (kept : Kept) : Type 0 where
-  pub few : kept .n ≤ 16
-  pub narrow : AllNarrow width (kept .n)
-  pub ordered : AllOrdered at end (kept .n)
-  pub rest-in : SlotsIn cells sheet (kept .rest)
 
 -- ---- one border
 

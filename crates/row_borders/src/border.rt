@@ -10,7 +10,7 @@ ghost use mathlib.Core.Path.{_≡_};
 ghost use Prim.Native.Nat.{_≤_};
 ghost use lib.ListN.{length};
 ghost use Rattle.slots.specs.Seats.{SlotsIn};
-ghost use Rattle.row_borders.specs.Merge.{AllNarrow, RowIn};
+ghost use Rattle.seats.specs.Keep.{AllNarrow, RowIn};
 ghost use Rattle.row_borders.specs.Border.{BordersAbove, JoinsNew, BordersBelow};
 
 // What the row makes of a border that the old lines end in, whose segments stand in bytes.

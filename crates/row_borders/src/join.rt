@@ -10,7 +10,7 @@ ghost use mathlib.Core.Path.{_≡_};
 ghost use Prim.Native.Nat.{_≤_, _<_};
 ghost use lib.ListN.{length};
 ghost use Rattle.slots.specs.Seats.{SlotsIn};
-ghost use Rattle.row_borders.specs.Merge.{AllNarrow};
+ghost use Rattle.seats.specs.Keep.{AllNarrow};
 ghost use Rattle.row_borders.specs.Join.{JoinedIn, JoinsKept, JoinsNext, JoinsRest, JoinsEdges};
 
 // How many segments a border has, where the last seat ends, and where the next one begins: at 0 there is none before it.

@@ -14,7 +14,8 @@ ghost use mathlib.Core.Path.{_≡_};
 ghost use Prim.Native.Nat.{_≤_, _<_};
 ghost use lib.ListN.{length};
 ghost use Rattle.slots.specs.Seats.{SlotsIn};
-ghost use Rattle.row_borders.specs.Merge.{AllNarrow, AllOrdered, RowIn, MergesLine, MergesBottom, MergesBorder, MergesSeat, MergesKept, MergesRest, MergesSeats};
+ghost use Rattle.seats.specs.Keep.{AllNarrow, AllOrdered, RowIn};
+ghost use Rattle.row_borders.specs.Merge.{MergesLine, MergesBottom, MergesBorder, MergesSeat, MergesKept, MergesRest, MergesSeats};
 
 // How many segments a border has, and where the next seat begins.
 pub struct Merged {

@@ -10,9 +10,9 @@ use lib.ListN.{length}
 use borrow.Author.Tests.{le-ltb}
 use Rattle.fields.specs.Widths.{width}
 use Rattle.rows.specs.declared.RenderOptions.{RenderOptions}
-use Rattle.spans.specs.Columns.{Slot, Column, columnOf, bottomOf, columnsHeight, columnMisfit, anyMisfit, anyPast, holesOf, borderBelow, rowMisfit}
-use Rattle.spans.specs.Places.{LinesAt}
-use Rattle.spans.proofs.Columns.{misfit-columns}
+use Rattle.rows.specs.Columns.{Slot, Column, columnOf, bottomOf, columnsHeight, columnMisfit, anyMisfit, anyPast, holesOf, borderBelow, rowMisfit}
+use Rattle.fields.specs.Places.{LinesAt}
+use Rattle.rows.proofs.Columns.{misfit-columns}
 use Rattle.slots.specs.declared.seat.Seat.{Seat}
 use Rattle.slots.specs.declared.seat.Slots.{Slots}
 use Rattle.slots.specs.declared.seat.Next.the-variants.{Is, NoMore}

@@ -15,11 +15,10 @@ use Rattle.fields.specs.Sheet.{Piece}
 use Rattle.fields.specs.Widths.{piece-width, width}
 use Rattle.borders.specs.BorderSegHoriz.{Horiz}
 use Rattle.borders.specs.BorderHoriz.{new-type, join-above, merge-from-above}
-use Rattle.rows.specs.Columns.{joinAt}
+use Rattle.rows.specs.Columns.{joinAt, Slot, slotWidths, Column, columnOf, bottomOf, throughOf, punch, columnHoles, holesOf, anyPast, endsPast, bottomsOf, borderBelow}
 use Rattle.rows.specs.declared.RenderOptions.{RenderOptions}
-use Rattle.spans.specs.Sheet.{Hole}
-use Rattle.spans.specs.Columns.{Slot, slotWidths, Column, columnOf, bottomOf, throughOf, punch, columnHoles, holesOf, anyPast, endsPast, bottomsOf, borderBelow}
-use Rattle.spans.proofs.Columns.{past-width}
+use Rattle.fields.specs.Spans.{Hole}
+use Rattle.rows.proofs.Columns.{past-width}
 use Rattle.row_fit.specs.declared.row.Reach.{Reach}
 use Rattle.row_fit.specs.declared.seat.SeatFit.{SeatFit}
 use Rattle.row_fit.specs.Row.{edgeTo, joinTo, holeTo, overOf, Reaches, borderFrom, holesFrom, anyHole}

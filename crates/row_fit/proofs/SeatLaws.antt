@@ -22,10 +22,10 @@ use Rattle.borders.specs.BorderHoriz.{stretch-to, join-on, merge-from, merge-fr
 use Rattle.borders.specs.declared.border.Side.the-variants.{Above}
 use Rattle.rows.proofs.Reading.{OnSome, some-of}
 use Rattle.rows.proofs.Lines.{spaces-width}
-use Rattle.spans.specs.Sheet.{RenderLine, text, border, readBorder, readLine, readableLine, readableLines}
-use Rattle.spans.specs.SubRenderer.{isBorder}
-use Rattle.spans.specs.Columns.{Slot, Column, columnOf, overlaps, tooWide, nextColumn, columnMisfit}
-use Rattle.spans.specs.Places.{LinesAt}
+use Rattle.fields.specs.Spans.{RenderLine, text, border, readBorder, readLine, readableLine, readableLines}
+use Rattle.rows.specs.SubRenderer.{isBorder}
+use Rattle.rows.specs.Columns.{Slot, Column, columnOf, overlaps, tooWide, nextColumn, columnMisfit}
+use Rattle.fields.specs.Places.{LinesAt}
 use Rattle.places.specs.Border.{PartsIn, FindsParts}
 use Rattle.places.specs.declared.border.Parts.{Parts}
 use Rattle.holes.specs.declared.cols.LineCols.{LineCols}

@@ -9,7 +9,7 @@ use lib.ListN.{length}
 use Rattle.characters.specs.If.{if_then_else_}
 use Rattle.fields.specs.Widths.{width}
 use Rattle.rows.specs.declared.RenderOptions.{RenderOptions}
-use Rattle.spans.specs.Columns.{Slot, Column, columnOf, bottomOf, columnsHeight, borderBelow, rowMisfit, holesOf}
+use Rattle.rows.specs.Columns.{Slot, Column, columnOf, bottomOf, columnsHeight, borderBelow, rowMisfit, holesOf}
 use Rattle.slots.specs.declared.seat.Seat.{Seat}
 use Rattle.slots.specs.declared.seat.Slots.{Slots}
 use Rattle.slots.specs.Seats.{SeatIs, SlotsLeft}

@@ -14,9 +14,9 @@ use Rattle.fields.specs.Widths.{width}
 use Rattle.borders.specs.BorderSegHoriz.{joinsAbove}
 use Rattle.borders.specs.BorderHoriz.{stretch-to}
 use Rattle.rows.specs.declared.RenderOptions.{RenderOptions}
-use Rattle.spans.specs.Sheet.{RenderLine, text, border, readLine, readableLines}
-use Rattle.spans.specs.Columns.{Slot, Column, columnOf, bottomOf, overlaps, columnMisfit, throughOf}
-use Rattle.spans.specs.Places.{LinesAt}
+use Rattle.fields.specs.Spans.{RenderLine, text, border, readLine, readableLines}
+use Rattle.rows.specs.Columns.{Slot, Column, columnOf, bottomOf, overlaps, columnMisfit, throughOf}
+use Rattle.fields.specs.Places.{LinesAt}
 use Rattle.bodies.specs.Body.{BottomAt}
 use Rattle.holes.specs.declared.cols.LineCols.{LineCols}
 use Rattle.holes.specs.Cols.{Counts}

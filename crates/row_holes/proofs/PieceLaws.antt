@@ -23,12 +23,12 @@ use Rattle.fields.proofs.Fields.{FieldIs, raws-nil}
 use Rattle.fields.proofs.Readings.{read-first, read-none, read-size}
 use Rattle.fields.proofs.Parts.{part-length}
 use Rattle.fields.proofs.Sets.{sets-append, wrote-then}
-use Rattle.rows.specs.TaggedLine.{WellFormedPiece, join, push-str, push-ws, pad-to}
+use Rattle.fields.specs.TaggedLine.{WellFormedPiece, join, push-str, push-ws, pad-to}
 use Rattle.rows.proofs.Lines.{text-width-append, spaces-formed, spaces-width}
 use Rattle.rows.proofs.Reading.{OnSome, some-of}
-use Rattle.spans.specs.Sheet.{Hole, hole, holesBytes}
-use Rattle.spans.specs.BorderHoriz.{cutFor}
-use Rattle.spans.specs.Columns.{punch, cutAll}
+use Rattle.fields.specs.Spans.{Hole, hole, holesBytes}
+use Rattle.borders.specs.BorderHoriz.{cutFor}
+use Rattle.rows.specs.Columns.{punch, cutAll}
 use Rattle.tagged_line.specs.Pieces.{PiecesOf}
 use Rattle.holes.specs.Cols.{CountsPiece}
 use Rattle.long_borders.proofs.Laws.{near-low, near-sym}

@@ -14,10 +14,10 @@ use Rattle.characters.proofs.Tests.{clash}
 use Rattle.fields.specs.Widths.{piece-width}
 use Rattle.fields.proofs.Back.{Every}
 use Rattle.rows.specs.declared.RenderOptions.{RenderOptions}
-use Rattle.spans.specs.Sheet.{Hole, holesBytes}
-use Rattle.spans.specs.BorderHoriz.{cutFor}
-use Rattle.spans.specs.Columns.{Slot, Column, columnOf, punch, columnHoles, holesOf, cutAll}
-use Rattle.spans.specs.Places.{LinesAt}
+use Rattle.fields.specs.Spans.{Hole, holesBytes}
+use Rattle.borders.specs.BorderHoriz.{cutFor}
+use Rattle.rows.specs.Columns.{Slot, Column, columnOf, punch, columnHoles, holesOf, cutAll}
+use Rattle.fields.specs.Places.{LinesAt}
 use Rattle.slots.specs.declared.seat.Seat.{Seat}
 use Rattle.slots.specs.declared.seat.Slots.{Slots}
 use Rattle.slots.specs.declared.seat.Next.the-variants.{Is, NoMore}
@@ -28,11 +28,12 @@ use Rattle.row_holes.specs.Through.{SeatAt, seatThrough, CutsSeat, PutsS
 use Rattle.row_holes.specs.Row.{WideSeat, ShortSeat, CutsOne, CutsHoles, HolesIs, PutsOne, HolesIn, PutsHoles}
 use Rattle.row_holes.specs.declared.line.Put.{Put}
 use Rattle.row_holes.proofs.PieceLaws.{put-none, put-then, holes-append}
+use Rattle.row_holes.proofs.Pushing.{consume-most}
 use Rattle.row_holes.proofs.ThroughLaws.{holes-longer}
 
 -- ---- one seat
 
-column-width : (collapse : Bool) (x : Slot) → columnOf collapse x .width ≡ x .width
+pub column-width : (collapse : Bool) (x : Slot) → columnOf collapse x .width ≡ x .width
 unfolding columnOf
 column-width false x = refl
 column-width true x = refl
@@ -43,20 +44,20 @@ column-span false x = refl
 column-span true x = refl
 
 -- the holes of a seat that hangs on
-hang-holes : (o : RenderOptions) (collapse : Bool) (height pos : ℕ) (x : Slot) → 1 < x .span
+pub hang-holes : (o : RenderOptions) (collapse : Bool) (height pos : ℕ) (x : Slot) → 1 < x .span
     → columnHoles o height pos (columnOf collapse x) ≡ punch pos (seatThrough o collapse height x)
 hang-holes o collapse height pos x h =
     let e : ltb 1 (columnOf collapse x .span) ≡ true = ap (ltb 1) (column-span collapse x) ∙ lt-ltb 1 (x .span) h in
     ap (λ (t : Bool). if t then punch pos (seatThrough o collapse height x) else []) e
 
 -- another has none
-no-holes : (o : RenderOptions) (collapse : Bool) (height pos : ℕ) (x : Slot) → x .span < 2 → columnHoles o height pos (columnOf collapse x) ≡ []
+pub no-holes : (o : RenderOptions) (collapse : Bool) (height pos : ℕ) (x : Slot) → x .span < 2 → columnHoles o height pos (columnOf collapse x) ≡ []
 no-holes o collapse height pos x h =
     let e : ltb 1 (columnOf collapse x .span) ≡ false = ap (ltb 1) (column-span collapse x) ∙ le-ltb 1 (x .span) (omega (arith, h)) in
     ap (λ (t : Bool). if t then punch pos (seatThrough o collapse height x) else []) e
 
 -- a seat with its lines where they stand
-seat-at : (cells sheet : List ℕ) (seat : Seat) (t : Bool) (x : Slot) → seat .hung ≡ t → SeatIs cells sheet seat x → WideSeat x → 1 < x .span
+pub seat-at : (cells sheet : List ℕ) (seat : Seat) (t : Bool) (x : Slot) → seat .hung ≡ t → SeatIs cells sheet seat x → WideSeat x → 1 < x .span
     → SeatAt (source cells sheet t) (seat .at) (seat .end) (seat .width) (seat .to) x
 seat-at cells sheet seat t x e i w h =
     record {
@@ -98,7 +99,7 @@ cut-append b [] ks = refl
 cut-append b (h ∷ hs) ks = cut-append (cutFor b (h .place) (h .place + piece-width (h .piece))) hs ks
 
 -- the holes of the first column and of the others
-holes-first : (o : RenderOptions) (height pos : ℕ) (c : Column) (cs : List Column) (w : ℕ) → c .width ≡ w
+pub holes-first : (o : RenderOptions) (height pos : ℕ) (c : Column) (cs : List Column) (w : ℕ) → c .width ≡ w
     → holesOf o height pos (c ∷ cs) ≡ columnHoles o height pos c ++ holesOf o height (pos + w + 1) cs
 unfolding holesOf
 holes-first o height pos c cs w e = ap (λ (n : ℕ). columnHoles o height pos c ++ holesOf o height (pos + n + 1) cs) e
@@ -350,8 +351,9 @@ seats-short o collapse height pos (x ∷ xs) h =
     ∙ ap length (holes-append hs ks) ∙ length-append (holesBytes hs) (holesBytes ks) in (
       λ k.
           let l = holes-longer pos (seatThrough o collapse height x) in
+          let m = consume-most (seatThrough o collapse height x) in
           let p : length (holesBytes hs) ≡ length (holesBytes (punch pos (seatThrough o collapse height x))) =
           ap (λ (z : List Hole). length (holesBytes z)) (hang-holes o collapse height pos x k) in
-          omega (arith, l, p, e, h),
+          omega (arith, l, m, p, e, h),
       seats-short o collapse height (pos + w + 1) xs (omega (arith, e, h)),
     )

@@ -20,15 +20,14 @@ use Rattle.fields.specs.Widths.{piece-width, width}
 use Rattle.fields.proofs.Back.{Every, every-append, GoodPiece, pieces-back}
 use Rattle.fields.proofs.Parts.{part-length}
 use Rattle.fields.proofs.Fields.{FieldIs, field-is, raws-nil}
-use Rattle.borders.specs.BorderHoriz.{stretch-to, to-string}
-use Rattle.rows.specs.TaggedLine.{WellFormedPiece, join, push-str, push, push-ws, pad-to}
+use Rattle.borders.specs.BorderHoriz.{stretch-to, to-string, upToHole, into-tagged-from, border-into-tagged-line}
+use Rattle.fields.specs.TaggedLine.{WellFormedPiece, join, push-str, push, consume, push-ws, pad-to}
 use Rattle.rows.specs.declared.RenderOptions.{RenderOptions}
 use Rattle.rows.proofs.Lines.{readable-formed}
-use Rattle.spans.specs.Sheet.{Hole, hole, RenderLine, text, border, readLine, readableHole, readableLine, readableLines, holesBytes}
-use Rattle.spans.specs.BorderHoriz.{upToHole, into-tagged-from, border-into-tagged-line}
-use Rattle.spans.specs.SubRenderer.{filled, into-tagged-line, isBorder}
-use Rattle.spans.specs.Columns.{Slot, columnOf, throughOf, punch}
-use Rattle.spans.specs.Places.{LinesAt}
+use Rattle.fields.specs.Spans.{Hole, hole, RenderLine, text, border, readLine, readableHole, readableLine, readableLines, holesBytes}
+use Rattle.rows.specs.SubRenderer.{filled, into-tagged-line, isBorder}
+use Rattle.rows.specs.Columns.{Slot, columnOf, throughOf, punch}
+use Rattle.fields.specs.Places.{LinesAt}
 use Rattle.bodies.specs.Body.{BodyIs, FindsBody}
 use Rattle.bodies.specs.Walk.{SkipsTo}
 use Rattle.bodies.specs.declared.body.Body.{Body}
@@ -44,6 +43,7 @@ use Rattle.holes.specs.Drawing.{drawnMost, PushesTagged}
 use Rattle.row_holes.specs.Through.{ThroughIn, LaidTo, LaysBorder, PiecesIn, ThroughIs, SeatAt, seatThrough, FindsThrough, CutsSeat, PutsSeat}
 use Rattle.row_holes.specs.Pieces.{PutsPieces, CutsPieces}
 use Rattle.row_holes.proofs.PieceLaws.{fill-none}
+use Rattle.row_holes.proofs.Pushing.{consume-tagged}
 use Rattle.row_holes.specs.declared.line.Through.{Through}
 
 -- ---- pieces that were pushed have text
@@ -94,10 +94,11 @@ part-sets l i xs end e h =
     back [] zs = refl
     back (y ∷ ys) zs = ap (λ (r : List ℕ). y ∷ r) (back ys zs)
 
-use-held : (st laid : List ℕ) (ps : List Piece) (p : Line) → Held st ps laid p → p .base ≡ 3 → length laid ≡ length st → Every GoodPiece ps → LaidTo laid (p .at) ps
-use-held st laid ps p h b k g =
+use-held : (st laid : List ℕ) (ps : List Piece) (p : Line) → Held st ps laid p → p .base ≡ 3 → length laid ≡ length st → Every GoodPiece ps → consume [] ps ≡ ps → LaidTo laid (p .at) ps
+use-held st laid ps p h b k g again =
     record {
       valid = h .valid;
+      pushed = again;
       size = omega (arith, h .place, b);
       reads = λ small fits.
           let e = h .bytes (omega (arith, h .place, b, small, fits)) in
@@ -109,15 +110,16 @@ use-held st laid ps p h b k g =
 
 pub lays-border : (st laid : List ℕ) (new line : Line) (letter : ℕ) (s : List ℕ) (parts : Parts) (to : ℕ) → new ≡ newLine 0 → line .base ≡ new .base → length laid ≡ length st
     → FindsParts letter s parts → PushesTagged st new s (parts .segs) (parts .holes) to laid line → LaysBorder letter s to laid (line .at)
-unfolding border-into-tagged-line
+unfolding border-into-tagged-line consume
 lays-border st laid new line letter s parts to e b k f p a ss hs r ok =
     let base : line .base ≡ 3 = b ∙ ap (λ (l : Line). l .base) e in
     use-held st laid (into-tagged-from a (stretch-to ss to) [] 0 hs) line
     (p a ss hs (f a ss hs r) ok st [] (rw e (held-new st 0))) base k (good-tagged a (stretch-to ss to) [] 0 hs tt)
+    (consume-tagged a (stretch-to ss to) [] [] 0 hs)
 
 -- ---- `line_through`
 
-all-formed : (ps : List Piece) → all readablePiece ps ≡ true → Every WellFormedPiece ps
+pub all-formed : (ps : List Piece) → all readablePiece ps ≡ true → Every WellFormedPiece ps
 unfolding all
 all-formed [] e = tt
 all-formed (str a t ∷ ps) e =
@@ -128,7 +130,7 @@ map-some : (o : Option (List Piece)) (r : RenderLine) → Option·map text o ≡
 map-some none r e = absurd (let y : _≡_ {A = ℕ} 0 1 = cc in omega arith)
 map-some (some ps) r e = (ps, refl, cc)
 
-text-pieces : (letter : ℕ) (t : List ℕ) (l : RenderLine) → letter ≡ 0x4C → readLine (whole letter t) ≡ some l → (ps : List Piece) × PiecesOf t ps × (l ≡ text ps)
+pub text-pieces : (letter : ℕ) (t : List ℕ) (l : RenderLine) → letter ≡ 0x4C → readLine (whole letter t) ≡ some l → (ps : List Piece) × PiecesOf t ps × (l ≡ text ps)
 unfolding readLine
 text-pieces letter t l e r = map-some (readAll readPiece (raws t)) l (rw (eq-eqb letter 0x4C e) at r)
 
@@ -141,13 +143,13 @@ pad-none l a =
 
 -- the lines from a number on
 module _ (s : List ℕ) (at end width to : ℕ) (collapse : Bool) (height : ℕ) (b : Body) (p : ℕ) (fb : FindsBody s at end collapse b) (sk : SkipsTo s (b .at) (b .end) height p) where
-  from-there : (x : Slot) → SeatAt s at end width to x → LinesAt s p (b .end) (drop height (columnOf collapse x .lines))
+  pub from-there : (x : Slot) → SeatAt s at end width to x → LinesAt s p (b .end) (drop height (columnOf collapse x .lines))
   from-there x h = sk (columnOf collapse x .lines) (fb x (h .lines-at) .lines-at)
 
-  readable-there : (x : Slot) → SeatAt s at end width to x → readableLines (drop height (columnOf collapse x .lines)) ≡ true
+  pub readable-there : (x : Slot) → SeatAt s at end width to x → readableLines (drop height (columnOf collapse x .lines)) ≡ true
   readable-there x h = readable-drop height (columnOf collapse x .lines) (column-readable collapse x (h .readable))
 
-  same-width : (x : Slot) → columnOf collapse x .width ≡ x .width
+  pub same-width : (x : Slot) → columnOf collapse x .width ≡ x .width
   unfolding columnOf
   same-width x = go collapse
     where
@@ -155,7 +157,7 @@ module _ (s : List ℕ) (at end width to : ℕ) (collapse : Bool) (height : ℕ)
       go true = refl
       go false = refl
 
-  same-to : (x : Slot) → columnOf collapse x .to ≡ x .to
+  pub same-to : (x : Slot) → columnOf collapse x .to ≡ x .to
   unfolding columnOf
   same-to x = go collapse
     where
@@ -280,13 +282,14 @@ module _ (s : List ℕ) (at end width to : ℕ) (collapse : Bool) (height : ℕ)
   laid-reads x seat o el ef small fits =
       ap (λ (i : ℕ). readAll readPiece (raws (part i (t .end) laid))) ef ∙ laid-there x seat o el .reads small fits
 
-  -- the bytes of what was laid
+  -- the bytes of what was laid, which is what it is when it is pushed
   laid-size : (x : Slot) (seat : SeatAt s at end width to x) (o : RenderOptions) → o .annotation ≡ a → t .laid ≡ true → t .to ≡ 0
-      → t .end ≡ 3 + length (piecesBytes (seatThrough o collapse height x))
+      → (t .end ≡ 3 + length (piecesBytes (seatThrough o collapse height x))) × (consume [] (seatThrough o collapse height x) ≡ seatThrough o collapse height x)
   laid-size x seat o ea el et =
       let e : ft x seat o .pieces ≡ seatThrough o collapse height x =
       sym (pad-none (ft x seat o .pieces) a) ∙ ap (λ (w : ℕ). pad-to (ft x seat o .pieces) w a) (sym et) ∙ filled-is x seat o ea in
-      laid-there x seat o el .size ∙ ap (λ (z : List Piece). 3 + length (piecesBytes z)) e
+      let l = laid-there x seat o el in
+      (l .size ∙ ap (λ (z : List Piece). 3 + length (piecesBytes z)) e, rw e at (l .pushed))
 
   -- what is laid and fits is short
   pub small-laid : (n : ℕ) → t .laid ≡ true → t .from ≡ 3 → t .end ≤ length laid → length laid ≡ n → n ≤ 65538 → length (part (t .from) (t .end) laid) < 65536
@@ -304,7 +307,9 @@ module _ (s : List ℕ) (at end width to : ℕ) (collapse : Bool) (height : ℕ)
       rw (filled-is x seat o ea) at (cp (ft x seat o .pieces) (laid-reads x seat o el ef small end-in) (laid-there x seat o el .valid) pos₀ near segs keeps)
 
   pub cut-long : (b : List ℕ) (n room : ℕ) → t .laid ≡ true → t .to ≡ 0 → room < t .end → CutsSeat b n a s at end width to collapse height pos room b n
-  cut-long b n room el et long x seat o ea fits pos₀ near segs keeps = absurd (omega (arith, laid-size x seat o ea el et, fits, long))
+  cut-long b n room el et long x seat o ea fits pos₀ near segs keeps =
+      let l = laid-size x seat o ea el et in
+      absurd (omega (arith, l .0, ap (λ (z : List Piece). length (piecesBytes z)) (l .1), fits, long))
 
   pub put-there : (out out′ : List ℕ) (place room r : ℕ) → t .laid ≡ false → PutsPieces out place (part (t .from) (t .end) s) (t .to) a pos out′ r
       → PutsSeat out place a s at end width to collapse height pos room out′ (record { at = r; long = false })
@@ -320,4 +325,4 @@ module _ (s : List ℕ) (at end width to : ℕ) (collapse : Bool) (height : ℕ)
   pub put-long : (out : List ℕ) (place room r : ℕ) → t .laid ≡ true → t .to ≡ 0 → room < t .end
       → PutsSeat out place a s at end width to collapse height pos room out (record { at = r; long = true })
   put-long out place room r el et long x seat o ea pos₀ near =
-      omega (arith, laid-size x seat o ea el et, long, holes-longer pos₀ (seatThrough o collapse height x))
+      omega (arith, laid-size x seat o ea el et .0, long, holes-longer pos₀ (seatThrough o collapse height x))

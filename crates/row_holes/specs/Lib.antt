@@ -1,3 +1,4 @@
 pub mod Pieces
 pub mod Through
 pub mod Row
+pub mod Text

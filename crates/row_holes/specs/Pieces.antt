@@ -12,9 +12,9 @@ use Rattle.characters.specs.If.{if_then_else_}
 use Rattle.fields.specs.Field.{whole, two, head, all}
 use Rattle.fields.specs.Sheet.{Piece, str, fragment, readPiece}
 use Rattle.fields.proofs.Back.{Every}
-use Rattle.rows.specs.TaggedLine.{WellFormedPiece, pad-to}
-use Rattle.spans.specs.Sheet.{Hole, holesBytes}
-use Rattle.spans.specs.Columns.{punch, cutAll}
+use Rattle.fields.specs.TaggedLine.{WellFormedPiece, pad-to}
+use Rattle.fields.specs.Spans.{Hole, holesBytes}
+use Rattle.rows.specs.Columns.{punch, cutAll}
 use Rattle.tagged_line.specs.Pieces.{PiecesOf}
 use Rattle.long_borders.specs.Keeps.{Near, Keeps}
 

@@ -2,14 +2,15 @@
 -- Assumes nothing: these are definitions.
 use mathlib.Core.Path.{_≡_}
 use mathlib.Core.Bool.{Bool, true, false}
-use mathlib.Core.List.{List, map}
+use mathlib.Core.List.{List, [], map}
 use Prim.Native.Nat.{ℕ, _+_, _-_, _≤_, _<_}
 use lib.ListN.{length}
 use Rattle.fields.specs.Sheet.{piecesBytes}
 use Rattle.fields.proofs.Back.{Every}
+use Rattle.fields.specs.TaggedLine.{consume}
 use Rattle.rows.specs.declared.RenderOptions.{RenderOptions}
-use Rattle.spans.specs.Sheet.{Hole, holesBytes}
-use Rattle.spans.specs.Columns.{Slot, columnOf, columnHoles, holesOf, cutAll}
+use Rattle.fields.specs.Spans.{Hole, holesBytes}
+use Rattle.rows.specs.Columns.{Slot, columnOf, columnHoles, holesOf, cutAll}
 use Rattle.slots.specs.declared.seat.Seat.{Seat}
 use Rattle.slots.specs.declared.seat.Slots.{Slots}
 use Rattle.slots.specs.Seats.{SeatIs, SlotsLeft}
@@ -24,9 +25,9 @@ use Rattle.row_holes.specs.declared.line.Put.{Put}
 abbrev pub WideSeat : Slot → Type 0
 WideSeat x = 1 < x .span → 1 ≤ x .width
 
--- the pieces of the line of one that hangs on fit a buffer of so many bytes, behind a head
+-- the pieces of the line of one that hangs on, pushed on a new line, fit a buffer of so many bytes, behind a head
 abbrev pub ShortSeat : RenderOptions → Bool → ℕ → ℕ → Slot → Type 0
-ShortSeat o collapse height room x = 1 < x .span → 3 + length (piecesBytes (seatThrough o collapse height x)) ≤ room
+ShortSeat o collapse height room x = 1 < x .span → 3 + length (piecesBytes (consume [] (seatThrough o collapse height x))) ≤ room
 
 -- ---- the cuts
 

@@ -3,28 +3,28 @@
 use mathlib.Core.Path.{_≡_}
 use mathlib.Core.Bool.{Bool, true, false}
 use mathlib.Core.Option.{some}
-use mathlib.Core.List.{List}
+use mathlib.Core.List.{List, []}
 use Prim.Native.Nat.{ℕ, _+_, _≤_, _<_}
 use lib.ListN.{length, drop}
 use Rattle.fields.specs.Field.{whole, part, all}
 use Rattle.fields.specs.Sheet.{Piece, piecesBytes}
 use Rattle.fields.proofs.Back.{Every}
-use Rattle.borders.specs.BorderHoriz.{stretch-to}
-use Rattle.rows.specs.TaggedLine.{WellFormedPiece, pad-to}
+use Rattle.borders.specs.BorderHoriz.{stretch-to, border-into-tagged-line}
+use Rattle.fields.specs.TaggedLine.{WellFormedPiece, consume, pad-to}
 use Rattle.rows.specs.declared.RenderOptions.{RenderOptions}
-use Rattle.spans.specs.Sheet.{Hole, border, readLine, readableHole, readableLines, holesBytes}
-use Rattle.spans.specs.BorderHoriz.{border-into-tagged-line}
-use Rattle.spans.specs.Columns.{Slot, columnOf, punch, throughOf, cutAll}
-use Rattle.spans.specs.Places.{LinesAt}
+use Rattle.fields.specs.Spans.{Hole, border, readLine, readableHole, readableLines, holesBytes}
+use Rattle.rows.specs.Columns.{Slot, columnOf, punch, throughOf, cutAll}
+use Rattle.fields.specs.Places.{LinesAt}
 use Rattle.tagged_line.specs.Pieces.{PiecesOf}
 use Rattle.long_borders.specs.Keeps.{Near, Keeps}
 use Rattle.row_holes.specs.Pieces.{HolesPut}
 use Rattle.row_holes.specs.declared.line.Through.{Through}
 use Rattle.row_holes.specs.declared.line.Put.{Put}
 
--- some pieces laid in a buffer from the third byte on up to a place, if it has room for them
+-- some pieces, as they are when they are pushed, laid in a buffer from the third byte on up to a place, if it has room for them
 pub record LaidTo (laid : List ℕ) (end : ℕ) (ps : List Piece) : Type 0 where
   pub valid : Every WellFormedPiece ps
+  pub pushed : consume [] ps ≡ ps
   pub size : end ≡ 3 + length (piecesBytes ps)
   pub reads : length laid ≤ 65538 → end ≤ length laid → PiecesOf (part 3 end laid) ps
 
@@ -74,7 +74,7 @@ FindsThrough s at end width to collapse height laid t =
 -- `cut_seat`: cut, unless the line is a border whose pieces are too long to be laid
 abbrev pub CutsSeat : List ℕ → ℕ → ℕ → List ℕ → ℕ → ℕ → ℕ → ℕ → Bool → ℕ → ℕ → ℕ → List ℕ → ℕ → Type 0
 CutsSeat b n a s at end width to collapse height pos room b′ r =
-    (x : Slot) → SeatAt s at end width to x → (o : RenderOptions) → o .annotation ≡ a → 3 + length (piecesBytes (seatThrough o collapse height x)) ≤ room
+    (x : Slot) → SeatAt s at end width to x → (o : RenderOptions) → o .annotation ≡ a → 3 + length (piecesBytes (consume [] (seatThrough o collapse height x))) ≤ room
     → (pos₀ : ℕ) → Near pos pos₀ → (border : List ℕ) → Keeps b n border → Keeps b′ r (cutAll border (punch pos₀ (seatThrough o collapse height x)))
 
 -- numbers of `put_seat`

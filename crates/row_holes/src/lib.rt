@@ -2,3 +2,4 @@
 pub mod line;
 pub mod pieces;
 pub mod row;
+pub mod text;

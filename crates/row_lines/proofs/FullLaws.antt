@@ -8,19 +8,21 @@ use native.Mathlib.Omega.{arith}
 use lib.ListN.{length, length-map}
 use Rattle.fields.specs.Sheet.{Piece}
 use Rattle.rows.specs.declared.RenderOptions.{RenderOptions}
-use Rattle.spans.specs.Sheet.{RenderLine, text}
-use Rattle.spans.specs.SubRenderer.{padded}
-use Rattle.spans.specs.Answer.{fits}
-use Rattle.spans.specs.Columns.{Slot, Column, cellMisfit, columnOf, columnLine, nextColumn, lineMisfit, linesMisfit, columnLines}
+use Rattle.fields.specs.Spans.{RenderLine, text}
+use Rattle.rows.specs.SubRenderer.{padded}
+use Rattle.rows.specs.Answer.{fits}
+use Rattle.rows.specs.Columns.{Slot, Column, cellMisfit, columnOf, columnLine, nextColumn, lineMisfit, linesMisfit, columnLines}
 use Rattle.slots.specs.declared.seat.Slots.{Slots}
+use Rattle.seats.specs.declared.keep.Kept.{Kept}
 use Rattle.tagged_line.specs.declared.line.Line.{Line}
 use Rattle.extend_lines.specs.Emitted.{InBounds, OneLineMore, Emitted, AddsTextLine}
 use Rattle.extend_lines.specs.declared.lines.Lines.{Lines}
 use Rattle.extend_lines.proofs.Emitting.{one-more}
-use Rattle.row_lines.specs.Row.{isLong, columnsFrom, LaysKept}
+use Rattle.row_lines.specs.Row.{StartsSeats, isLong, columnsFrom, LaysKept}
 use Rattle.row_lines.specs.Place.{down}
+use Rattle.row_lines.specs.Mark.{StartsAhead}
 use Rattle.row_lines.specs.Rest.{columnsDown, LaysRest}
-use Rattle.row_lines.specs.Full.{RowAt, allColumns, LaysFull, AddsFullLine, AddsFull}
+use Rattle.row_lines.specs.Full.{RowAt, allColumns, LaysFull, AddsFullLine, AddsFull, AddsRow}
 use Rattle.row_lines.proofs.Growing.{or-first, or-second, sizeOf, long-unfit, long-size}
 use Rattle.row_lines.proofs.RowLaws.{or-true, lines-count, lines-first, misfit-first, long-more}
 
@@ -228,3 +230,31 @@ module _ (out₀ : List ℕ) (p : Lines) (s : RenderOptions) (cells sheet ats₀
         empty : (ys : List RenderLine) → length ys ≡ 0 → ys ≡ []
         empty [] x = refl
         empty (y ∷ ys) x = absurd (omega arith)
+
+-- ---- from the first lines on
+
+-- the columns of all seats at their first lines
+all-first : (collapse : Bool) (ys zs : List Slot) → map (columnOf collapse) (ys ++ zs) ≡ allColumns collapse 0 (map (columnOf collapse) ys) zs
+unfolding down
+all-first collapse [] [] = refl
+all-first collapse [] (z ∷ zs) = ap (λ (x : List Column). columnOf collapse z ∷ x) (all-first collapse [] zs)
+all-first collapse (y ∷ ys) zs = ap (λ (x : List Column). columnOf collapse y ∷ x) (all-first collapse ys zs)
+
+-- The kept seats start, and the marks of those ahead; then come the lines.
+pub row-added : (out out′ : List ℕ) (p r : Lines) (s : RenderOptions) (cells sheet ats ats′ ends widths tos : List ℕ) (hungs : List Bool) (collapse : Bool) (kept : Kept) (marks : List ℕ) (height : ℕ)
+    → StartsSeats cells sheet ats ends hungs collapse (kept .n) ats′ → StartsAhead cells sheet (kept .more) (kept .rest) collapse marks
+    → AddsFull out p s cells sheet ats′ ends widths tos hungs collapse (kept .n) (kept .more) (kept .rest) marks height out′ r
+    → AddsRow out p s cells sheet ats ends widths tos hungs collapse kept height out′ r
+row-added out out′ p r s cells sheet ats ats′ ends widths tos hungs collapse kept marks height f g h spans xs total k row fine st ls e =
+    let cs = map (columnOf collapse) (k .ys) in
+    let same : map (columnOf collapse) xs ≡ allColumns collapse 0 cs (k .zs) = ap (map (columnOf collapse)) (k .are) ∙ all-first collapse (k .ys) (k .zs) in
+    let at : RowAt cells sheet ats′ ends widths tos hungs collapse (kept .n) (kept .more) (kept .rest) 0 marks cs (k .zs) =
+    record {
+      kept = f widths tos spans (k .ys) (k .count) (k .seats-are);
+      total = total;
+      ahead = k .ahead;
+      marked = λ x. g x (k .zs) total (k .ahead x);
+      ended = λ x. k .ended x .0;
+    } in
+    subst (λ (z : List Column). Emitted st (ls ++ map (padded s) (columnLines s height z)) [] out′ r) (sym same)
+    (h cs (k .zs) at row (sym (ap (linesMisfit row height) same) ∙ fine) st ls e)

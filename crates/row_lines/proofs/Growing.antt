@@ -1,15 +1,14 @@
 -- A line of the row only grows: what is pushed onto it is never shorter, so a line that is too long stays so.
 -- Assumes nothing.
-use mathlib.Core.Path.{_≡_, refl, sym, ap, _∙_}
-use mathlib.Core.Bool.{Bool, true, false, _||_, not}
+use mathlib.Core.Path.{_≡_, refl, ap}
+use mathlib.Core.Bool.{Bool, true, false, _||_}
 use mathlib.Core.Option.{Option, none, some, Option·map}
 use mathlib.Core.List.{List, [], _∷_, _++_}
 use Prim.Native.Nat.{ℕ, zero, suc, _+_, _-_, _*_, _≤_, _<_}
 use native.Mathlib.Omega.{arith}
-use lib.Dec.{leb, ltb, eqb}
+use lib.Dec.{ltb, eqb}
 use lib.ListN.{length, replicate, length-append}
-use borrow.Author.Tests.{leb-true, leb-false, lt-leb, ltb-true, ltb-false}
-use Rattle.characters.specs.If.{if_then_else_}
+use borrow.Author.Tests.{lt-leb, ltb-true, ltb-false}
 use Rattle.characters.specs.Utf8.{Place, fresh, inside, Step, bad, on, ends, stepByte, follow, atEnd, charsFrom, chars}
 use Rattle.characters.specs.Columns.{cols, str-width}
 use Rattle.characters.proofs.Tests.{by-if}
@@ -18,13 +17,12 @@ use Rattle.fields.specs.Field.{field}
 use Rattle.fields.specs.Sheet.{Piece, str, fragment, pieceBytes, piecesBytes}
 use Rattle.fields.specs.Widths.{widthOr, text-width, width}
 use Rattle.rows.specs.declared.RenderOptions.{RenderOptions}
-use Rattle.rows.specs.TaggedLine.{onto, join, push-str, push, consume, push-ws, pad-to}
-use Rattle.rows.specs.SubRenderer.{edge}
+use Rattle.fields.specs.TaggedLine.{onto, join, push-str, push, consume, push-ws, pad-to}
+use Rattle.rows.specs.SubRenderer.{edge, padded}
 use Rattle.tagged_line.proofs.Holding.{pieces-append}
-use Rattle.spans.specs.Sheet.{RenderLine, text, border, content}
-use Rattle.spans.specs.SubRenderer.{padded, into-tagged-line}
-use Rattle.spans.specs.Answer.{fits}
-use Rattle.spans.specs.Columns.{Column, addColumn}
+use Rattle.fields.specs.Spans.{RenderLine, text, border}
+use Rattle.rows.specs.Answer.{fits}
+use Rattle.rows.specs.Columns.{Column, addColumn}
 use Rattle.row_lines.specs.Seat.{opened}
 use Rattle.tagged_line.specs.Held.{Held}
 use Rattle.tagged_line.specs.declared.line.Line.{Line}
@@ -42,15 +40,15 @@ or-second false b e = e
 abbrev pub sizeOf : List Piece → ℕ
 sizeOf l = length (piecesBytes l)
 
-size-cons : (p : Piece) (l : List Piece) → sizeOf (p ∷ l) ≡ length (pieceBytes p) + sizeOf l
+pub size-cons : (p : Piece) (l : List Piece) → sizeOf (p ∷ l) ≡ length (pieceBytes p) + sizeOf l
 unfolding piecesBytes
 size-cons p l = length-append (pieceBytes p) (piecesBytes l)
 
-size-str : (a : ℕ) (t : List ℕ) → length (pieceBytes (str a t)) ≡ 4 + length t
+pub size-str : (a : ℕ) (t : List ℕ) → length (pieceBytes (str a t)) ≡ 4 + length t
 unfolding field
 size-str a t = omega (arith)
 
-size-none : sizeOf [] ≡ 0
+pub size-none : sizeOf [] ≡ 0
 unfolding piecesBytes
 size-none = refl
 
@@ -73,7 +71,8 @@ unfolding push-str
 grow-str l a [] = omega arith
 grow-str l a (b ∷ t) = grow-join l a (b ∷ t)
 
-grow-push : (l : List Piece) (p : Piece) → sizeOf l ≤ sizeOf (push l p)
+-- A piece that is pushed.
+pub grow-push : (l : List Piece) (p : Piece) → sizeOf l ≤ sizeOf (push l p)
 unfolding push
 grow-push l (str a t) = grow-str l a t
 grow-push l (fragment n) = omega (arith, ap length (pieces-append l (fragment n ∷ [])), length-append (piecesBytes l) (piecesBytes (fragment n ∷ [])))

@@ -1,17 +1,17 @@
 -- Laws of the marks.
 -- Assumes nothing.
-use mathlib.Core.Path.{_≡_, refl, sym, ap, ap₂, subst, _∙_}
+use mathlib.Core.Path.{_≡_, refl, sym, ap₂, subst, _∙_}
 use mathlib.Core.Bool.{Bool, true, false}
-use mathlib.Core.List.{List, [], _∷_}
-use Prim.Native.Nat.{ℕ, zero, suc, _+_, _*_, _/_, _%_, _≤_, _<_}
+use mathlib.Core.List.{List}
+use Prim.Native.Nat.{ℕ, _+_, _*_, _/_, _%_, _<_}
 use native.Mathlib.Omega.{arith}
 use lib.ListN.{length, getD, set, length-set}
 use lib.Seq.{getD-set-same, getD-set-other}
-use Rattle.spans.specs.Sheet.{linesBytes}
-use Rattle.spans.specs.Columns.{Slot, columnOf}
+use Rattle.rows.specs.Columns.{columnOf}
 use Rattle.bodies.specs.Walk.{PassesTop}
+use Rattle.slots.specs.declared.seat.Slots.{Slots}
 use Rattle.row_lines.specs.Place.{down, FindsPlace}
-use Rattle.row_lines.specs.Mark.{LinesOf, StandsAt, markAt, Marked, FindsFirst, FindsCursor, CursorSet}
+use Rattle.row_lines.specs.Mark.{StandsAt, markAt, FindsFirst, FindsCursor, CursorSet, StartsAhead}
 use Rattle.row_lines.proofs.StartLaws.{readable-top}
 
 -- Without collapsing the first line stands first.
@@ -46,15 +46,9 @@ pub cursor-found : (marks : List ℕ) (k : ℕ) (bytes : List ℕ) (collapse : B
 unfolding down
 cursor-found marks k bytes collapse i first r f g x l m = g (x .width) (x .to) (columnOf collapse x) (f x l)
 
--- No mark is set.
-pub set-none : (marks : List ℕ) (k at : ℕ) → length marks / 2 ≤ k → CursorSet marks k at marks k
-set-none marks k at h =
-    record { size = refl; put = λ l. absurd (omega arith); others = λ j d. refl; next = λ l. absurd (omega arith); stays = λ l. refl }
-
--- A place that is too far is not.
-pub set-far : (marks : List ℕ) (k at r : ℕ) → k < length marks / 2 → 65536 ≤ at → r ≡ k + 1 → CursorSet marks k at marks r
-set-far marks k at r h far e =
-    record { size = refl; put = λ l low. absurd (omega arith); others = λ j d. refl; next = λ l. e; stays = λ l. absurd (omega arith) }
+-- No seat is ahead.
+pub ahead-none : (cells sheet : List ℕ) (more : Bool) (first : Slots) (collapse : Bool) (marks : List ℕ) → more ≡ false → StartsAhead cells sheet more first collapse marks
+ahead-none cells sheet more first collapse marks e x = absurd (let z : _≡_ {A = ℕ} 0 1 = cc in omega arith)
 
 -- A mark is set.
 pub set-mark : (marks : List ℕ) (k at r : ℕ) → k < length marks / 2 → at < 65536 → r ≡ k + 1

@@ -1,19 +1,18 @@
 -- Laws of the places of a seat's lines.
 -- Assumes nothing.
-use mathlib.Core.Path.{_≡_, refl, ap, subst, _∙_}
+use mathlib.Core.Path.{_≡_, ap, _∙_}
 use mathlib.Core.Bool.{Bool, true, false}
 use mathlib.Core.List.{List, [], _∷_}
-use Prim.Native.Nat.{ℕ, zero, suc, _+_, _≤_, _<_}
-use native.Mathlib.Omega.{arith}
+use Prim.Native.Nat.{ℕ, _+_, _≤_, _<_}
 use native.Mathlib.Numerals.{add-one}
 use lib.ListN.{drop}
 use Rattle.fields.specs.Field.{fieldAt, part}
 use Rattle.fields.specs.declared.field.Field.the-variants.{At, Broken, End}
-use Rattle.spans.specs.Sheet.{RenderLine, border}
-use Rattle.spans.specs.Columns.{Column, nextColumn}
+use Rattle.fields.specs.Spans.{RenderLine, border}
+use Rattle.rows.specs.Columns.{nextColumn}
 use Rattle.bodies.proofs.LineLaws.{no-lines, first-line, line-broken, line-end}
 use Rattle.bodies.proofs.BodyLaws.{line-border, line-text}
-use Rattle.row_lines.specs.Seat.{leavesPattern, LeftAt}
+use Rattle.row_lines.specs.Seat.{leavesPattern}
 use Rattle.row_lines.specs.Place.{down, MovesOn, FindsPlace}
 use Rattle.row_lines.proofs.SeatLaws.{none-left, stays, first-of, taken-off, stays-on, border-of, alone-off, readable-first}
 

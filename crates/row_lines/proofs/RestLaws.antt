@@ -2,11 +2,11 @@
 -- Assumes nothing.
 use mathlib.Core.Path.{_≡_, refl, sym, ap, subst, _∙_}
 use mathlib.Core.Bool.{Bool, true, false}
-use mathlib.Core.List.{List, [], _∷_, _++_, map, append-assoc, append-nil}
+use mathlib.Core.List.{List, [], _∷_, _++_, append-assoc, append-nil}
 use mathlib.Core.Logic.{⊎-elim}
-use Prim.Native.Nat.{ℕ, zero, suc, _+_, _-_, _*_, _/_, _^_, _≤_, _<_}
+use Prim.Native.Nat.{ℕ, suc, _+_, _-_, _/_, _^_, _≤_, _<_}
 use native.Mathlib.Omega.{arith}
-use lib.ListN.{length, take, drop, getD, length-append}
+use lib.ListN.{length, drop, length-append}
 use lib.Seq.{getD-at, take-all}
 use Rattle.characters.proofs.Tests.{lt-or-le}
 use Rattle.fields.specs.Field.{raws, readAll, part}
@@ -14,12 +14,11 @@ use Rattle.fields.specs.Sheet.{Piece}
 use Rattle.fields.proofs.Parts.{part-length}
 use Rattle.rows.specs.declared.RenderOptions.{RenderOptions}
 use Rattle.rows.proofs.Reading.{some-of, Bytes, bytes-take, bytes-drop}
-use Rattle.spans.specs.Sheet.{RenderLine, readLine, linesBytes, readableLines}
-use Rattle.spans.specs.Columns.{Slot, slot, Column, columnOf, cellMisfit, addColumn, lineMisfit}
-use Rattle.spans.specs.Places.{LinesAt}
-use Rattle.spans.proofs.Same.{lines-same}
-use Rattle.bodies.proofs.FieldLaws.{part-part}
-use Rattle.slots.specs.Seats.{source, SeatIs, SeatIn, SlotsIn, SlotsLeft, FoundIn, FindsNext}
+use Rattle.fields.specs.Spans.{readLine, linesBytes, readableLines}
+use Rattle.rows.specs.Columns.{Slot, slot, cellMisfit, addColumn, lineMisfit}
+use Rattle.fields.specs.Places.{LinesAt}
+use Rattle.rows.proofs.Same.{lines-same}
+use Rattle.slots.specs.Seats.{source, SeatIn, SlotsIn, SlotsLeft, FoundIn, FindsNext}
 use Rattle.slots.specs.declared.seat.Seat.{Seat}
 use Rattle.slots.specs.declared.seat.Slots.{Slots}
 use Rattle.slots.specs.declared.seat.Next.the-variants.{Is, NoMore}
@@ -28,11 +27,11 @@ use Rattle.tagged_line.specs.Held.{Within, LineGrown, Held}
 use Rattle.tagged_line.specs.declared.line.Line.{Line}
 use Rattle.extend_lines.specs.Emitted.{InBounds, LineBegun}
 use Rattle.extend_lines.specs.declared.lines.Lines.{Lines}
-use Rattle.row_lines.specs.Seat.{seatMost, AddedIn, LeftAt, AddsSeat, opened, OpensSeat}
+use Rattle.row_lines.specs.Seat.{seatMost, LeftAt, AddsSeat, opened, OpensSeat}
 use Rattle.row_lines.specs.Row.{isLong, columnsFrom}
 use Rattle.row_lines.specs.Place.{down}
 use Rattle.row_lines.specs.Mark.{LinesOf, StandsAt, markAt, Marked, FindsFirst, FindsCursor, CursorSet, SomeSet, StartsMark, AllMarked, StartsMarks}
-use Rattle.row_lines.specs.Rest.{columnDown, MarkedIn, MarkedAdded, AddsMarked, AddsFound, columnsDown, RestLine, LaysRest}
+use Rattle.row_lines.specs.Rest.{columnDown, MarkedIn, AddsMarked, AddsFound, columnsDown, LaysRest}
 use Rattle.row_lines.specs.declared.seat.Added.{Added}
 use Rattle.row_lines.proofs.Growing.{or-first, or-second, sizeOf, grow-columns, short-line}
 use Rattle.row_lines.proofs.RowLaws.{columns-later, startOf}

@@ -1,34 +1,33 @@
 -- Laws of the lines of a row whose seats are kept.
 -- Assumes nothing.
 use mathlib.Core.Path.{_≡_, refl, sym, ap, subst, _∙_}
-use mathlib.Core.Bool.{Bool, true, false, not, _&&_, _||_}
+use mathlib.Core.Bool.{Bool, true, false, _&&_, _||_}
 use mathlib.Core.Option.{none}
-use mathlib.Core.List.{List, [], _∷_, _++_, map, append-nil, append-assoc}
+use mathlib.Core.List.{List, [], _∷_, _++_, map}
 use mathlib.Core.Logic.{⊎-elim}
-use Prim.Native.Nat.{ℕ, zero, suc, _+_, _-_, _*_, _^_, _≤_, _<_}
+use Prim.Native.Nat.{ℕ, zero, suc, _+_, _-_, _^_, _≤_, _<_}
 use native.Mathlib.Omega.{arith}
 use lib.ListN.{length, drop, getD, set, length-set, length-map, length-append, List·getD-map, drop-of-length-le}
 use lib.Seq.{getD-set-same, getD-set-other, drop-cons}
-use Rattle.characters.proofs.Tests.{lt-or-le, and-left}
+use Rattle.characters.proofs.Tests.{lt-or-le}
 use Rattle.fields.specs.Field.{all}
 use Rattle.fields.specs.Sheet.{Piece}
 use Rattle.rows.specs.declared.RenderOptions.{RenderOptions}
-use Rattle.rows.specs.TaggedLine.{push-str}
+use Rattle.fields.specs.TaggedLine.{push-str}
 use Rattle.rows.specs.SubRenderer.{edge}
-use Rattle.spans.specs.Sheet.{RenderLine, text}
-use Rattle.spans.specs.SubRenderer.{padded}
-use Rattle.spans.specs.Answer.{fits, fitsHanging}
-use Rattle.spans.specs.Columns.{slot, Column, column, cellMisfit, addColumn, columnLine, nextColumn, lineMisfit, linesMisfit, columnLines}
+use Rattle.fields.specs.Spans.{RenderLine, text}
+use Rattle.rows.specs.Answer.{fits}
+use Rattle.rows.specs.Columns.{slot, Column, column, cellMisfit, addColumn, columnLine, nextColumn, lineMisfit, linesMisfit, columnLines}
 use Rattle.slots.specs.Seats.{source}
 use Rattle.tagged_line.specs.Held.{Within, LineGrown, newLine, Held}
 use Rattle.tagged_line.specs.declared.line.Line.{Line}
-use Rattle.extend_lines.specs.Emitted.{InBounds, OneLineMore, LineBegun, allFit, Emitted, AddsTextLine}
+use Rattle.extend_lines.specs.Emitted.{InBounds, LineBegun, Emitted}
 use Rattle.extend_lines.specs.declared.lines.Lines.{Lines}
-use Rattle.extend_lines.proofs.Emitting.{held-new, one-more}
+use Rattle.extend_lines.proofs.Emitting.{held-new}
 use Rattle.row_lines.specs.Seat.{seatMost, AddedIn, LeftAt, AddsKept, opened, OpensSeat}
-use Rattle.row_lines.specs.Row.{columnAt, ColumnsAt, isLong, columnsFrom, KeptLine, LaysKept, LineAdded, AddsRowLine, AddsRow}
+use Rattle.row_lines.specs.Row.{columnAt, ColumnsAt, isLong, columnsFrom, LaysKept}
 use Rattle.row_lines.specs.declared.seat.Added.{Added}
-use Rattle.row_lines.proofs.Growing.{or-first, or-second, sizeOf, grow-columns, long-unfit, long-size, short-line}
+use Rattle.row_lines.proofs.Growing.{or-first, or-second, sizeOf, grow-columns, short-line}
 
 -- ---- a line of the row
 
@@ -220,37 +219,9 @@ begun-from p l line e b =
 pub begun-more : (p : Lines) (line : Line) → LineBegun p line 2100000 → LineBegun p line 8000000
 begun-more p line b = record { base = b .base; on = b .on; piece = b .piece; at = omega (arith, b .at); cols = omega (arith, b .cols) }
 
--- A line that is not too long is added.
-pub line-added : (out mid out′ ats ats′ : List ℕ) (p r : Lines) (s : RenderOptions) (cells sheet ends widths tos : List ℕ) (hungs : List Bool) (collapse : Bool) (n : ℕ) (line : Line)
-    → LaysKept out s cells sheet ats ends widths tos hungs collapse n mid ats′ line → length mid ≡ length out → isLong line ≡ false → AddsTextLine mid p line s out′ r
-    → AddsRowLine out p s cells sheet ats ends widths tos hungs collapse n out′ ats′ r
-unfolding columnsFrom
-line-added out mid out′ ats ats′ p r s cells sheet ends widths tos hungs collapse n line f size e g cs c total fine st ls em =
-    let t = f cs c total fine in
-    let is : t .pieces ≡ columnLine s [] cs = t .whole e [] ∙ ap (columnLine s []) (append-nil cs) in
-    record {
-      emitted = subst (λ (l : List Piece). Emitted st (ls ++ (padded s (text l) ∷ [])) [] out′ r) is (g st out ls (t .pieces) em size (t .held));
-      moved = λ _. t .moved e;
-    }
-
 pub or-true : (a : Bool) → (a || true) ≡ true
 or-true true = refl
 or-true false = refl
-
--- One that is too long is counted.
-pub line-long : (out mid ats ats′ : List ℕ) (p r : Lines) (s : RenderOptions) (cells sheet ends widths tos : List ℕ) (hungs : List Bool) (collapse : Bool) (n : ℕ) (line : Line)
-    → LaysKept out s cells sheet ats ends widths tos hungs collapse n mid ats′ line → length mid ≡ length out → isLong line ≡ true → r .count ≡ p .count + 1 → r .long ≡ true
-    → AddsRowLine out p s cells sheet ats ends widths tos hungs collapse n mid ats′ r
-line-long out mid ats ats′ p r s cells sheet ends widths tos hungs collapse n line f size e count long cs c total fine st ls em =
-    let t = f cs c total fine in
-    let g : sizeOf (t .pieces) ≤ sizeOf (columnLine s [] cs) = subst (λ (x : List Column). sizeOf (t .pieces) ≤ sizeOf (columnLine s [] x)) (append-nil cs) (t .grows []) in
-    let x : fits (padded s (text (columnLine s [] cs))) ≡ false = long-unfit s (columnLine s [] cs) (omega (arith, g, long-size out (t .pieces) mid line (t .held) e)) in
-    record {
-      emitted =
-          one-more st out mid ls (padded s (text (columnLine s [] cs))) p r em size count (long ∙ sym (rw x (or-true (p .long))))
-          (λ y. absurd (let z : _≡_ {A = ℕ} 0 1 = cc in omega arith));
-      moved = λ y. absurd (let z : _≡_ {A = ℕ} 0 1 = cc in omega arith);
-    }
 
 -- ---- all lines of the row
 
@@ -295,92 +266,3 @@ long-more st ls ms out q r e long rlong count =
 
     unfit : all fits (ls ++ ms) ≡ false
     unfit = unfit-more ls ms (go (all fits ls) refl)
-
-module _ (out₀ : List ℕ) (p : Lines) (s : RenderOptions) (cells sheet ats₀ ends widths tos : List ℕ) (hungs : List Bool) (collapse : Bool) (n height : ℕ) where
-  -- some lines are added, and the others come behind them
-  pub record RowsTo (out ats : List ℕ) (q : Lines) (i : ℕ) (cs : List Column) (total : ℕ) (st : List ℕ) (ls : List RenderLine) : Type 0 where
-    pub ms : List RenderLine
-    pub later : List RenderLine
-    pub emitted : Emitted st ms [] out q
-    pub count : length later ≡ height - i
-    pub are : ms ++ later ≡ ls ++ map (padded s) (columnLines s height cs)
-    pub goes : q .long ≡ false
-        → (ds : List Column) × ColumnsAt cells sheet ats ends widths tos hungs collapse n ds × (linesMisfit total (height - i) ds ≡ false)
-        × (later ≡ map (padded s) (columnLines s (height - i) ds))
-
-  -- with the numbers
-  pub record RowsLaid (out ats : List ℕ) (q : Lines) (i : ℕ) : Type 0 where
-    pub bounds : InBounds q
-    pub few : i ≤ height
-    pub count : q .count ≡ p .count + i
-    pub size : length out ≡ length out₀
-    pub left : (cs : List Column) → ColumnsAt cells sheet ats₀ ends widths tos hungs collapse n cs → (total : ℕ) → linesMisfit total height cs ≡ false
-        → (st : List ℕ) (ls : List RenderLine) → Emitted st ls [] out₀ p → RowsTo out ats q i cs total st ls
-
-  -- None at first.
-  pub rows-start : InBounds p → RowsLaid out₀ ats₀ p 0
-  rows-start b =
-      let none : height - 0 ≡ height = omega arith in
-      record {
-        bounds = b;
-        few = omega arith;
-        count = omega arith;
-        size = refl;
-        left = λ cs c total fine st ls e.
-            record {
-              ms = ls;
-              later = map (padded s) (columnLines s height cs);
-              emitted = e;
-              count = length-map (columnLines s height cs) (padded s) ∙ lines-count s height cs ∙ sym none;
-              are = refl;
-              goes = λ _. (cs, c, rw none fine, rw none refl);
-            };
-      }
-
-  module _ (out ats : List ℕ) (q : Lines) (i : ℕ) (w : RowsLaid out ats q i) where
-    -- One line more.
-    pub rows-on : (out′ ats′ : List ℕ) (r : Lines) → i < height → p .count + height < 1000000 → q .long ≡ false → length out′ ≡ length out → OneLineMore q r
-        → AddsRowLine out q s cells sheet ats ends widths tos hungs collapse n out′ ats′ r → RowsLaid out′ ats′ r (i + 1)
-    rows-on out′ ats′ r h room short size more f =
-        let m : height - i ≡ suc (height - (i + 1)) = omega arith in
-        record {
-          bounds = record { at = omega (arith, more .count, more .at, w .bounds .at); count = omega (arith, more .count, w .count) };
-          few = omega arith;
-          count = omega (arith, more .count, w .count);
-          size = size ∙ w .size;
-          left = λ cs c total fine st ls e.
-              let t = w .left cs c total fine st ls e in
-              let (ds, d, draws, later) = t .goes short in
-              let k = misfit-first total (height - (i + 1)) ds (rw m at draws) in
-              let a = f ds d total (k .0) st (t .ms) (t .emitted) in
-              let x = padded s (text (columnLine s [] ds)) in
-              let others = map (padded s) (columnLines s (height - (i + 1)) (map nextColumn ds)) in
-              let split : t .later ≡ x ∷ others = later ∙ ap (λ (z : ℕ). map (padded s) (columnLines s z ds)) m ∙ ap (map (padded s)) (lines-first s (height - (i + 1)) ds) in
-              record {
-                ms = t .ms ++ (x ∷ []);
-                later = others;
-                emitted = a .emitted;
-                count = length-map (columnLines s (height - (i + 1)) (map nextColumn ds)) (padded s) ∙ lines-count s (height - (i + 1)) (map nextColumn ds);
-                are = append-assoc (t .ms) (x ∷ []) others ∙ ap (λ (z : List RenderLine). t .ms ++ z) (sym split) ∙ t .are;
-                goes = λ y. (map nextColumn ds, a .moved y, k .1, refl);
-              };
-        }
-
-    -- A line is too long: the others are counted.
-    pub rows-long : (r : Lines) → q .long ≡ true → r .long ≡ true → r .count ≡ q .count + (height - i)
-        → AddsRow out₀ p s cells sheet ats₀ ends widths tos hungs collapse n height out r
-    rows-long r long rlong count cs c total fine st ls e =
-        let t = w .left cs c total fine st ls e in
-        subst (λ (z : List RenderLine). Emitted st z [] out r) (t .are) (long-more st (t .ms) (t .later) out q r (t .emitted) long rlong (count ∙ ap (λ (z : ℕ). q .count + z) (sym (t .count))))
-
-    -- All lines.
-    pub rows-end : height ≤ i → AddsRow out₀ p s cells sheet ats₀ ends widths tos hungs collapse n height out q
-    rows-end h cs c total fine st ls e =
-        let t = w .left cs c total fine st ls e in
-        let none : t .later ≡ [] = empty (t .later) (omega (arith, t .count)) in
-        let all-of : t .ms ≡ ls ++ map (padded s) (columnLines s height cs) = sym (append-nil (t .ms)) ∙ ap (λ (z : List RenderLine). t .ms ++ z) (sym none) ∙ t .are in
-        subst (λ (z : List RenderLine). Emitted st z [] out q) all-of (t .emitted)
-      where
-        empty : (xs : List RenderLine) → length xs ≡ 0 → xs ≡ []
-        empty [] x = refl
-        empty (y ∷ xs) x = absurd (omega arith)

@@ -4,12 +4,11 @@ use mathlib.Core.Path.{_≡_, refl, sym, ap, subst, _∙_}
 use mathlib.Core.Bool.{Bool, true, false, not, _&&_}
 use mathlib.Core.Option.{Option, none, some, Option·map}
 use mathlib.Core.List.{List, [], _∷_}
-use Prim.Native.Nat.{ℕ, zero, suc, _+_, _-_, _*_, _≤_, _<_}
+use Prim.Native.Nat.{ℕ, zero, suc, _+_, _-_, _≤_, _<_}
 use native.Mathlib.Omega.{arith}
 use lib.Dec.{eqb}
 use lib.ListN.{length, drop, replicate}
-use borrow.Author.Tests.{eq-eqb, eqb-true, eqb-false}
-use Rattle.characters.specs.If.{if_then_else_}
+use borrow.Author.Tests.{eq-eqb, eqb-true}
 use Rattle.characters.specs.Utf8.{firstByte, stepByte, charsFrom, chars, utf8}
 use Rattle.characters.specs.Columns.{columnsOf, widthOf, cols, str-width}
 use Rattle.characters.proofs.Tests.{and-left, and-right}
@@ -20,15 +19,14 @@ use Rattle.fields.specs.declared.field.Field.{Field}
 use Rattle.fields.specs.declared.field.Field.the-variants.{At, Broken, End}
 use Rattle.fields.proofs.Back.{Every}
 use Rattle.fields.proofs.Parts.{part-length}
-use Rattle.borders.specs.BorderHoriz.{stretch-to, drawn}
+use Rattle.borders.specs.BorderHoriz.{stretch-to}
 use Rattle.rows.specs.declared.RenderOptions.{RenderOptions}
-use Rattle.rows.specs.TaggedLine.{WellFormedPiece, push-str, push-ws, addPieces}
+use Rattle.fields.specs.TaggedLine.{WellFormedPiece, push-str, push-ws, consume, addPieces}
 use Rattle.rows.proofs.Lines.{readable-formed, consume-pieces, pieces-width, spaces-formed, spaces-width}
 use Rattle.rows.proofs.Columns.{spaces-drawn}
-use Rattle.spans.specs.Sheet.{Hole, RenderLine, text, border, readLine, readableLine, readableLines}
-use Rattle.spans.specs.SubRenderer.{isBorder, rest, bottom, withoutBottom}
-use Rattle.spans.specs.Columns.{Column, cellMisfit, addColumn, nextColumn}
-use Rattle.spans.specs.Places.{LinesAt}
+use Rattle.fields.specs.Spans.{Hole, RenderLine, text, border, readLine, readableLine, readableLines}
+use Rattle.rows.specs.SubRenderer.{isBorder, rest, bottom, withoutBottom}
+use Rattle.rows.specs.Columns.{Column, overlaps, holedText, cellMisfit, addColumn, nextColumn}
 use Rattle.places.specs.Border.{FindsParts}
 use Rattle.places.specs.declared.border.Parts.{Parts}
 use Rattle.holes.specs.Drawing.{PushesHoled}
@@ -38,7 +36,7 @@ use Rattle.tagged_line.specs.declared.line.Line.{Line}
 use Rattle.bodies.proofs.FieldLaws.{FoundAt}
 use Rattle.bodies.proofs.LineLaws.{no-lines, first-line, line-broken, line-end}
 use Rattle.bodies.proofs.BodyLaws.{line-border, line-text}
-use Rattle.row_lines.specs.Seat.{AddsCellText, AddsPattern, lineOverlaps, lineOnto, AddsLine, leavesPattern, Collapsed, LeftAt, SeatAdded, AddsSeat, AddsEdge, OpensSeat}
+use Rattle.row_lines.specs.Seat.{AddsCellText, AddsPattern, AddsBorder, leavesPattern, Collapsed, AddsSeat, AddsEdge, OpensSeat}
 use Rattle.row_lines.specs.declared.seat.Added.{Added}
 
 -- ---- a text of a cell
@@ -125,6 +123,11 @@ pub pattern-drawn : (out out′ : List ℕ) (p r : Line) (s : RenderOptions) (le
     → Draws out p (s .annotation) (part (q .segs) (q .holes) content) to true out′ r → AddsPattern out p s letter content to out′ r
 pattern-drawn out out′ p r s letter content to q f g a segs hs e st l h = rw (sym (f a segs hs e .segments)) (g st l h)
 
+-- A border, with its holes.
+pub border-holed : (out out′ : List ℕ) (p r : Line) (s : RenderOptions) (letter : ℕ) (content : List ℕ) (to : ℕ) (q : Parts) → FindsParts letter content q
+    → PushesHoled out p (s .annotation) content (q .segs) (q .holes) to out′ r → AddsBorder out p s letter content to out′ r
+border-holed out out′ p r s letter content to q f g a segs hs e ok fine st l h = g a segs hs (f a segs hs e) ok fine st l h
+
 map-some : (o : Option (List Piece)) (r : RenderLine) → Option·map text o ≡ some r → (ps : List Piece) × (o ≡ some ps) × (r ≡ text ps)
 map-some none r e = absurd (let z : _≡_ {A = ℕ} 0 1 = cc in omega arith)
 map-some (some ps) r e = (ps, refl, cc)
@@ -135,19 +138,35 @@ read-text : (letter : ℕ) (t : List ℕ) (r : RenderLine) → letter ≡ 0x4C �
 unfolding readLine
 read-text letter t r el e = map-some (readAll readPiece (raws t)) r (rw (eq-eqb letter 0x4C el) at e)
 
--- A text.
-pub text-line : (out out′ : List ℕ) (p r : Line) (s : RenderOptions) (letter : ℕ) (content : List ℕ) (to : ℕ) → letter ≡ 0x4C
+-- a line cannot be drawn: the holes of a border overlap
+abbrev lineOverlaps : ℕ → RenderLine → Bool
+lineOverlaps to (text ps) = false
+lineOverlaps to (border a segs hs) = overlaps (stretch-to segs to) 0 hs
+
+-- or it gives this to a line of the row
+abbrev lineOnto : RenderOptions → ℕ → List Piece → RenderLine → List Piece
+lineOnto s to l (text ps) = push-str (consume l ps) (s .annotation) (replicate (to - width ps) 0x20)
+lineOnto s to l (border a segs hs) = push-str l (s .annotation) (holedText (stretch-to segs to) 0 hs)
+
+-- a line that does
+abbrev AddsLine : List ℕ → Line → RenderOptions → ℕ → List ℕ → ℕ → List ℕ → Line → Type 0
+AddsLine out p s letter content to out′ r =
+    (g : RenderLine) → readLine (whole letter content) ≡ some g → readableLine g ≡ true → lineOverlaps to g ≡ false
+    → (st : List ℕ) (l : List Piece) → Held st l out p → Held st (lineOnto s to l g) out′ r
+
+-- a text
+text-line : (out out′ : List ℕ) (p r : Line) (s : RenderOptions) (letter : ℕ) (content : List ℕ) (to : ℕ) → letter ≡ 0x4C
     → AddsCellText out p s content to out′ r → AddsLine out p s letter content to out′ r
 text-line out out′ p r s letter content to el f g e ok fine st l h =
     let (ps, pieces, is) = read-text letter content g el e in
     rw is (f ps pieces (rw is at ok) st l h)
 
--- A border.
-pub border-line : (out out′ : List ℕ) (p r : Line) (s : RenderOptions) (letter : ℕ) (content : List ℕ) (to : ℕ) (q : Parts) → (letter ≡ 0x4C → ⊥)
-    → FindsParts letter content q → PushesHoled out p (s .annotation) content (q .segs) (q .holes) to out′ r → AddsLine out p s letter content to out′ r
-border-line out out′ p r s letter content to q d f g (text ps) e ok fine st l h =
+-- any other is a border
+border-line : (out out′ : List ℕ) (p r : Line) (s : RenderOptions) (letter : ℕ) (content : List ℕ) (to : ℕ) → (letter ≡ 0x4C → ⊥)
+    → AddsBorder out p s letter content to out′ r → AddsLine out p s letter content to out′ r
+border-line out out′ p r s letter content to d f (text ps) e ok fine st l h =
     let x = line-border letter content (text ps) e d in absurd (let z : _≡_ {A = ℕ} 0 1 = cc in omega arith)
-border-line out out′ p r s letter content to q d f g (border a segs hs) e ok fine st l h = g a segs hs (f a segs hs e) ok fine st l h
+border-line out out′ p r s letter content to d f (border a segs hs) e ok fine st l h = f a segs hs e ok fine st l h
 
 -- ---- a seat
 
@@ -213,6 +232,14 @@ stays-on collapse letter next end e k n = go (eqb letter 0x4C) refl
     go : (b : Bool) → eqb letter 0x4C ≡ b → letter ≡ 0x4C
     go true x = eqb-true letter 0x4C x
     go false x = absurd (let y : true ≡ false = sym (rw (k, eq-eqb next end n, x)) ∙ e in let z : _≡_ {A = ℕ} 0 1 = cc in omega arith)
+
+-- a text is none
+text-stays : (collapse : Bool) (letter next end : ℕ) → letter ≡ 0x4C → leavesPattern collapse letter next end ≡ false
+text-stays collapse letter next end e = rw (eq-eqb letter 0x4C e) (no (collapse && eqb next end))
+  where
+    no : (b : Bool) → (b && false) ≡ false
+    no true = refl
+    no false = refl
 
 -- a border, by its parts
 pub border-of : (g : RenderLine) → isBorder g ≡ true → (a : ℕ) × (segs : List ℕ) × (hs : List Hole) × (g ≡ border a segs hs)
@@ -283,8 +310,8 @@ module _ (out out′ : List ℕ) (p : Line) (r : Added) (s : RenderOptions) (byt
               };
         }
 
-    -- A line is left.
-    pub seat-line : leavesPattern collapse letter next end ≡ false → r .next ≡ next → AddsLine out p s letter (part start next bytes) to out′ (r .line)
+    -- a line is left
+    seat-line : leavesPattern collapse letter next end ≡ false → r .next ≡ next → AddsLine out p s letter (part start next bytes) to out′ (r .line)
         → AddsSeat out p s bytes at end w to collapse out′ r
     unfolding nextColumn
     seat-line on n f c is =
@@ -308,6 +335,17 @@ module _ (out out′ : List ℕ) (p : Line) (r : Added) (s : RenderOptions) (byt
                 are = x .goes;
               };
         }
+
+    -- A text is left.
+    pub seat-text : letter ≡ 0x4C → r .next ≡ next → AddsCellText out p s (part start next bytes) to out′ (r .line)
+        → AddsSeat out p s bytes at end w to collapse out′ r
+    seat-text el n f =
+        seat-line (text-stays collapse letter next end el) n (text-line out out′ p (r .line) s letter (part start next bytes) to el f)
+
+    -- A border is left.
+    pub seat-border : (letter ≡ 0x4C → ⊥) → leavesPattern collapse letter next end ≡ false → r .next ≡ next
+        → AddsBorder out p s letter (part start next bytes) to out′ (r .line) → AddsSeat out p s bytes at end w to collapse out′ r
+    seat-border d on n f = seat-line on n (border-line out out′ p (r .line) s letter (part start next bytes) to d f)
 
   -- Lines are fields.
   pub seat-broken : at < end → fieldAt at (drop at bytes) ≡ Broken → AddsSeat out p s bytes at end w to collapse out′ r

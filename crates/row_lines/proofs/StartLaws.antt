@@ -2,23 +2,21 @@
 -- Assumes nothing.
 use mathlib.Core.Path.{_≡_, refl, sym, subst, _∙_}
 use mathlib.Core.Bool.{Bool, true, false}
-use mathlib.Core.Option.{none}
 use mathlib.Core.List.{List, [], _∷_, map}
 use mathlib.Core.Logic.{⊎-elim}
 use Prim.Native.Nat.{ℕ, zero, suc, _+_, _≤_, _<_}
 use native.Mathlib.Omega.{arith}
-use lib.ListN.{length, getD, set, length-set, length-map, List·getD-map}
+use lib.ListN.{length, getD, set, length-set, length-map}
 use lib.Seq.{getD-set-same, getD-set-other}
 use Rattle.characters.proofs.Tests.{lt-or-le, and-right}
 use Rattle.fields.specs.Field.{all}
-use Rattle.spans.specs.Sheet.{RenderLine, text, border, readableLine, readableLines}
-use Rattle.spans.specs.SubRenderer.{withoutTop, bottom, withoutBottom}
-use Rattle.spans.specs.Columns.{Slot, slot, Column, column, columnOf}
-use Rattle.bodies.specs.Walk.{PassesTop}
+use Rattle.fields.specs.Spans.{RenderLine, text, border, readableLine, readableLines}
+use Rattle.rows.specs.SubRenderer.{withoutTop}
+use Rattle.rows.specs.Columns.{Slot, Column, columnOf}
 use Rattle.slots.specs.Seats.{source}
 use Rattle.seats.specs.Keep.{KeptSeat, slotAt}
 use Rattle.row_lines.specs.Seat.{LeftAt}
-use Rattle.row_lines.specs.Row.{columnAt, ColumnsAt, PassesKept, StartsSeats}
+use Rattle.row_lines.specs.Row.{columnAt, PassesKept, StartsSeats}
 
 pub readable-top : (ls : List RenderLine) → readableLines ls ≡ true → readableLines (withoutTop ls) ≡ true
 unfolding readableLines all

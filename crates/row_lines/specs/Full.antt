@@ -7,11 +7,13 @@ use Prim.Native.Nat.{ℕ, suc, _≤_}
 use lib.ListN.{length}
 use Rattle.fields.specs.Sheet.{Piece, piecesBytes}
 use Rattle.rows.specs.declared.RenderOptions.{RenderOptions}
-use Rattle.spans.specs.Sheet.{RenderLine, text}
-use Rattle.spans.specs.SubRenderer.{padded}
-use Rattle.spans.specs.Columns.{Slot, Column, columnLine, nextColumn, lineMisfit, linesMisfit, columnLines}
+use Rattle.fields.specs.Spans.{RenderLine, text}
+use Rattle.rows.specs.SubRenderer.{padded}
+use Rattle.rows.specs.Columns.{Slot, Column, columnOf, columnLine, nextColumn, lineMisfit, linesMisfit, columnLines}
 use Rattle.slots.specs.Seats.{SlotsLeft}
 use Rattle.slots.specs.declared.seat.Slots.{Slots}
+use Rattle.seats.specs.Keep.{RowKept}
+use Rattle.seats.specs.declared.keep.Kept.{Kept}
 use Rattle.tagged_line.specs.Held.{Held}
 use Rattle.tagged_line.specs.declared.line.Line.{Line}
 use Rattle.extend_lines.specs.Emitted.{Emitted}
@@ -65,3 +67,10 @@ AddsFull out p s cells sheet ats ends widths tos hungs collapse n more rest mark
     (cs : List Column) (xs : List Slot) → RowAt cells sheet ats ends widths tos hungs collapse n more rest 0 marks cs xs
     → (row : ℕ) → linesMisfit row height (allColumns collapse 0 cs xs) ≡ false → (st : List ℕ) (ls : List RenderLine) → Emitted st ls [] out p
     → Emitted st (ls ++ map (padded s) (columnLines s height (allColumns collapse 0 cs xs))) [] out′ r
+
+-- `add_row`
+abbrev pub AddsRow : List ℕ → Lines → RenderOptions → List ℕ → List ℕ → List ℕ → List ℕ → List ℕ → List ℕ → List Bool → Bool → Kept → ℕ → List ℕ → Lines → Type 0
+AddsRow out p s cells sheet ats ends widths tos hungs collapse kept height out′ r =
+    (spans : List ℕ) (xs : List Slot) (total : ℕ) → RowKept cells sheet ats ends widths tos spans hungs kept xs total
+    → (row : ℕ) → linesMisfit row height (map (columnOf collapse) xs) ≡ false → (st : List ℕ) (ls : List RenderLine) → Emitted st ls [] out p
+    → Emitted st (ls ++ map (padded s) (columnLines s height (map (columnOf collapse) xs))) [] out′ r

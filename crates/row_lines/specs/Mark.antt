@@ -5,9 +5,9 @@ use mathlib.Core.Bool.{Bool, true}
 use mathlib.Core.List.{List}
 use Prim.Native.Nat.{ℕ, _+_, _*_, _/_, _≤_, _<_}
 use lib.ListN.{length, getD}
-use Rattle.spans.specs.Sheet.{linesBytes, readableLines}
-use Rattle.spans.specs.Columns.{Slot, columnOf}
-use Rattle.spans.specs.Places.{LinesAt}
+use Rattle.fields.specs.Spans.{linesBytes, readableLines}
+use Rattle.rows.specs.Columns.{Slot, columnOf}
+use Rattle.fields.specs.Places.{LinesAt}
 use Rattle.slots.specs.Seats.{SeatIs, SlotsLeft}
 use Rattle.slots.specs.declared.seat.Seat.{Seat}
 use Rattle.slots.specs.declared.seat.Slots.{Slots}
@@ -65,3 +65,7 @@ AllMarked marks collapse i xs = (j : ℕ) → j < length xs → Marked marks j c
 -- `start_marks`
 abbrev pub StartsMarks : List ℕ → List ℕ → Slots → Bool → List ℕ → Type 0
 StartsMarks cells sheet first collapse marks′ = (xs : List Slot) (total : ℕ) → SlotsLeft cells sheet first xs total → AllMarked marks′ collapse 0 xs
+
+-- `start_ahead`
+abbrev pub StartsAhead : List ℕ → List ℕ → Bool → Slots → Bool → List ℕ → Type 0
+StartsAhead cells sheet more first collapse marks′ = more ≡ true → StartsMarks cells sheet first collapse marks′

@@ -3,7 +3,7 @@
 use mathlib.Core.Bool.{Bool}
 use mathlib.Core.List.{List}
 use Prim.Native.Nat.{ℕ, zero, suc}
-use Rattle.spans.specs.Columns.{Column, nextColumn}
+use Rattle.rows.specs.Columns.{Column, nextColumn}
 use Rattle.row_lines.specs.Seat.{LeftAt}
 
 -- a column without its first lines, so many

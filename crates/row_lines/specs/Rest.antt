@@ -7,7 +7,7 @@ use Prim.Native.Nat.{ℕ, suc, _≤_}
 use lib.ListN.{length}
 use Rattle.fields.specs.Sheet.{Piece, piecesBytes}
 use Rattle.rows.specs.declared.RenderOptions.{RenderOptions}
-use Rattle.spans.specs.Columns.{Slot, Column, columnOf, cellMisfit, addColumn, lineMisfit}
+use Rattle.rows.specs.Columns.{Slot, Column, columnOf, cellMisfit, addColumn, lineMisfit}
 use Rattle.slots.specs.Seats.{SeatIs, SlotsLeft}
 use Rattle.slots.specs.declared.seat.Seat.{Seat}
 use Rattle.slots.specs.declared.seat.Slots.{Slots}

@@ -1,24 +1,20 @@
--- The lines of a row whose seats are kept: what each function does to the line or to the sheet's lines.
+-- The kept seats of a row on a line.
 -- Assumes nothing: these are definitions.
 use mathlib.Core.Path.{_≡_}
-use mathlib.Core.Bool.{Bool, true, false, _||_}
+use mathlib.Core.Bool.{Bool, false, _||_}
 use mathlib.Core.Option.{none}
 use mathlib.Core.List.{List, [], _∷_, _++_, map}
-use Prim.Native.Nat.{ℕ, suc, _+_, _-_, _≤_, _<_}
+use Prim.Native.Nat.{ℕ, suc, _-_, _≤_, _<_}
 use lib.Dec.{ltb}
 use lib.ListN.{length, getD}
 use Rattle.fields.specs.Sheet.{Piece, piecesBytes}
 use Rattle.rows.specs.declared.RenderOptions.{RenderOptions}
-use Rattle.spans.specs.Sheet.{RenderLine, text}
-use Rattle.spans.specs.SubRenderer.{padded}
-use Rattle.spans.specs.Columns.{Slot, slot, Column, column, columnOf, addColumn, columnLine, nextColumn, lineMisfit, linesMisfit, columnLines}
+use Rattle.rows.specs.Columns.{Slot, slot, Column, column, columnOf, addColumn, columnLine, nextColumn, lineMisfit}
 use Rattle.bodies.specs.Walk.{PassesTop}
 use Rattle.slots.specs.Seats.{source}
 use Rattle.seats.specs.Keep.{SeatsAre}
 use Rattle.tagged_line.specs.Held.{Held}
 use Rattle.tagged_line.specs.declared.line.Line.{Line}
-use Rattle.extend_lines.specs.Emitted.{Emitted}
-use Rattle.extend_lines.specs.declared.lines.Lines.{Lines}
 use Rattle.row_lines.specs.Seat.{LeftAt, opened}
 
 -- a column in a list
@@ -69,31 +65,3 @@ abbrev pub LaysKept : List ℕ → RenderOptions → List ℕ → List ℕ → L
 LaysKept out s cells sheet ats ends widths tos hungs collapse n out′ ats′ r =
     (cs : List Column) → ColumnsAt cells sheet ats ends widths tos hungs collapse n cs → (total : ℕ) → lineMisfit total cs ≡ false
     → KeptLine out s cells sheet ends widths tos hungs collapse n out′ ats′ r cs
-
--- a line more, and, unless a line is too long, the columns one line further
-pub record LineAdded (s : RenderOptions) (cells sheet ends widths tos : List ℕ) (hungs : List Bool) (collapse : Bool) (n : ℕ) (out′ ats′ : List ℕ) (r : Lines) (cs : List Column) (st : List ℕ) (ls : List RenderLine) : Type 0 where
-  pub emitted : Emitted st (ls ++ (padded s (text (columnLine s [] cs)) ∷ [])) [] out′ r
-  pub moved : r .long ≡ false → ColumnsAt cells sheet ats′ ends widths tos hungs collapse n (map nextColumn cs)
-
--- `add_row_line`
-abbrev pub AddsRowLine : List ℕ → Lines → RenderOptions → List ℕ → List ℕ → List ℕ → List ℕ → List ℕ → List ℕ → List Bool → Bool → ℕ → List ℕ → List ℕ → Lines → Type 0
-AddsRowLine out p s cells sheet ats ends widths tos hungs collapse n out′ ats′ r =
-    (cs : List Column) → ColumnsAt cells sheet ats ends widths tos hungs collapse n cs → (total : ℕ) → lineMisfit total cs ≡ false
-    → (st : List ℕ) (ls : List RenderLine) → Emitted st ls [] out p
-    → LineAdded s cells sheet ends widths tos hungs collapse n out′ ats′ r cs st ls
-
--- ---- the row
-
--- `add_lines`
-abbrev pub AddsRow : List ℕ → Lines → RenderOptions → List ℕ → List ℕ → List ℕ → List ℕ → List ℕ → List ℕ → List Bool → Bool → ℕ → ℕ → List ℕ → Lines → Type 0
-AddsRow out p s cells sheet ats ends widths tos hungs collapse n height out′ r =
-    (cs : List Column) → ColumnsAt cells sheet ats ends widths tos hungs collapse n cs → (total : ℕ) → linesMisfit total height cs ≡ false
-    → (st : List ℕ) (ls : List RenderLine) → Emitted st ls [] out p
-    → Emitted st (ls ++ map (padded s) (columnLines s height cs)) [] out′ r
-
--- `add_row`: the row of kept seats
-abbrev pub AddsKeptRow : List ℕ → Lines → RenderOptions → List ℕ → List ℕ → List ℕ → List ℕ → List ℕ → List ℕ → List Bool → Bool → ℕ → ℕ → List ℕ → Lines → Type 0
-AddsKeptRow out p s cells sheet ats ends widths tos hungs collapse n height out′ r =
-    (spans : List ℕ) (xs : List Slot) → length xs ≡ n → SeatsAre cells sheet ats ends widths tos spans hungs n xs
-    → (total : ℕ) → linesMisfit total height (map (columnOf collapse) xs) ≡ false → (st : List ℕ) (ls : List RenderLine) → Emitted st ls [] out p
-    → Emitted st (ls ++ map (padded s) (columnLines s height (map (columnOf collapse) xs))) [] out′ r

@@ -3,7 +3,7 @@
 use mathlib.Core.Path.{_≡_}
 use mathlib.Core.Bool.{Bool, true, false, not, _&&_}
 use mathlib.Core.Option.{some, none}
-use mathlib.Core.List.{List, [], _∷_}
+use mathlib.Core.List.{List}
 use Prim.Native.Nat.{ℕ, zero, suc, _-_, _≤_}
 use lib.Dec.{eqb}
 use lib.ListN.{replicate}
@@ -12,12 +12,11 @@ use Rattle.fields.specs.Sheet.{Piece, readablePiece}
 use Rattle.fields.specs.Widths.{width}
 use Rattle.borders.specs.BorderHoriz.{stretch-to, drawn}
 use Rattle.rows.specs.declared.RenderOptions.{RenderOptions}
-use Rattle.rows.specs.TaggedLine.{push-str, consume}
-use Rattle.rows.specs.SubRenderer.{edge}
-use Rattle.spans.specs.Sheet.{Hole, RenderLine, text, border, readLine, readableLine, readableLines}
-use Rattle.spans.specs.SubRenderer.{bottom, withoutBottom}
-use Rattle.spans.specs.Columns.{Column, overlaps, holedText, cellMisfit, addColumn, nextColumn}
-use Rattle.spans.specs.Places.{LinesAt}
+use Rattle.fields.specs.TaggedLine.{push-str, consume}
+use Rattle.rows.specs.SubRenderer.{edge, bottom, withoutBottom}
+use Rattle.fields.specs.Spans.{Hole, RenderLine, border, readLine, readableHole, readableLines}
+use Rattle.rows.specs.Columns.{Column, overlaps, holedText, cellMisfit, addColumn, nextColumn}
+use Rattle.fields.specs.Places.{LinesAt}
 use Rattle.slots.specs.Seats.{source}
 use Rattle.tagged_line.specs.Held.{LineGrown, Held}
 use Rattle.tagged_line.specs.Pieces.{PiecesOf}
@@ -47,21 +46,12 @@ AddsPattern out p s letter content to out′ r =
     (a : ℕ) (segs : List ℕ) (hs : List Hole) → readLine (whole letter content) ≡ some (border a segs hs)
     → (st : List ℕ) (l : List Piece) → Held st l out p → Held st (push-str l (s .annotation) (drawn true (stretch-to segs to))) out′ r
 
--- a line cannot be drawn: the holes of a border overlap
-abbrev pub lineOverlaps : ℕ → RenderLine → Bool
-lineOverlaps to (text ps) = false
-lineOverlaps to (border a segs hs) = overlaps (stretch-to segs to) 0 hs
-
--- or it gives this to a line of the row
-abbrev pub lineOnto : RenderOptions → ℕ → List Piece → RenderLine → List Piece
-lineOnto s to l (text ps) = push-str (consume l ps) (s .annotation) (replicate (to - width ps) 0x20)
-lineOnto s to l (border a segs hs) = push-str l (s .annotation) (holedText (stretch-to segs to) 0 hs)
-
--- a line that does
-abbrev pub AddsLine : List ℕ → Line → RenderOptions → ℕ → List ℕ → ℕ → List ℕ → Line → Type 0
-AddsLine out p s letter content to out′ r =
-    (g : RenderLine) → readLine (whole letter content) ≡ some g → readableLine g ≡ true → lineOverlaps to g ≡ false
-    → (st : List ℕ) (l : List Piece) → Held st l out p → Held st (lineOnto s to l g) out′ r
+-- a border with its holes, unless they overlap
+abbrev pub AddsBorder : List ℕ → Line → RenderOptions → ℕ → List ℕ → ℕ → List ℕ → Line → Type 0
+AddsBorder out p s letter content to out′ r =
+    (a : ℕ) (segs : List ℕ) (hs : List Hole) → readLine (whole letter content) ≡ some (border a segs hs) → all readableHole hs ≡ true
+    → overlaps (stretch-to segs to) 0 hs ≡ false
+    → (st : List ℕ) (l : List Piece) → Held st l out p → Held st (push-str l (s .annotation) (holedText (stretch-to segs to) 0 hs)) out′ r
 
 -- ---- a seat
 

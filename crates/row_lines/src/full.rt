@@ -1,12 +1,15 @@
 // The lines of a row of any number of seats: the first are kept, and the others are ahead. What a function here requires, its callers
 // show.
+use crate::mark::start_ahead;
 use crate::rest::lay_rest;
 use crate::row::is_long;
 use crate::row::lay_kept;
+use crate::row::start_seats;
 use crate::row::too_long;
 use extend_lines::lines::Lines;
 use extend_lines::lines::add_text_line;
 use rows::RenderOptions;
+use seats::keep::Kept;
 use slots::seat::Slots;
 use tagged_line::line::Line;
 ghost use mathlib.Core.Path.{_≡_};
@@ -15,7 +18,7 @@ ghost use lib.ListN.{length};
 ghost use Rattle.slots.specs.Seats.{SlotsIn};
 ghost use Rattle.extend_lines.specs.Emitted.{InBounds, OneLineMore, LineBegun};
 ghost use Rattle.row_lines.specs.Row.{Narrow};
-ghost use Rattle.row_lines.specs.Full.{LaysFull, AddsFullLine, AddsFull};
+ghost use Rattle.row_lines.specs.Full.{LaysFull, AddsFullLine, AddsFull, AddsRow};
 
 // All seats on a new line, up to where it is too long; each stands one line further.
 fn lay_full(
@@ -38,7 +41,9 @@ fn lay_full(
 ) -> Line
     requires { ⌜ InBounds lines × (n ≤ length (now at)) × (n ≤ 16) × Narrow (now width) (now to) n × SlotsIn (now cells) (now sheet) rest ⌝ }
     ensures { λ r. ⌜ LineBegun lines r 2100000 ⌝ }
-    ensures { λ r. ⌜ LaysFull (now (out .entry)) options (now (cells .entry)) (now (sheet .entry)) (now (at .entry)) (now (end .entry)) (now (width .entry)) (now (to .entry)) (now (hung .entry)) collapse n more rest i (now (marks .entry)) (now (out .exit)) (now (at .exit)) (now (marks .exit)) r ⌝ }
+    ensures { λ r. ⌜ LaysFull (now (out .entry)) options (now (cells .entry)) (now (sheet .entry))
+        (now (at .entry)) (now (end .entry)) (now (width .entry)) (now (to .entry)) (now (hung .entry))
+        collapse n more rest i (now (marks .entry)) (now (out .exit)) (now (at .exit)) (now (marks .exit)) r ⌝ }
 {
     let line = lay_kept(
         out,
@@ -96,7 +101,9 @@ fn add_full_line(
 ) -> Lines
     requires { ⌜ InBounds lines × (n ≤ length (now at)) × (n ≤ 16) × Narrow (now width) (now to) n × SlotsIn (now cells) (now sheet) rest ⌝ }
     ensures { λ r. ⌜ OneLineMore lines r ⌝ }
-    ensures { λ r. ⌜ AddsFullLine (now (out .entry)) lines options (now (cells .entry)) (now (sheet .entry)) (now (at .entry)) (now (end .entry)) (now (width .entry)) (now (to .entry)) (now (hung .entry)) collapse n more rest i (now (marks .entry)) (now (out .exit)) (now (at .exit)) (now (marks .exit)) r ⌝ }
+    ensures { λ r. ⌜ AddsFullLine (now (out .entry)) lines options (now (cells .entry)) (now (sheet .entry))
+        (now (at .entry)) (now (end .entry)) (now (width .entry)) (now (to .entry)) (now (hung .entry))
+        collapse n more rest i (now (marks .entry)) (now (out .exit)) (now (at .exit)) (now (marks .exit)) r ⌝ }
 {
     let line = lay_full(
         out,
@@ -123,7 +130,7 @@ fn add_full_line(
 }
 
 // The lines of the row, so many; behind one that is too long they are only counted.
-pub fn add_full_lines(
+fn add_full_lines(
     out: &mut [u8],
     lines: Lines,
     options: RenderOptions,
@@ -141,9 +148,12 @@ pub fn add_full_lines(
     marks: &mut [u8],
     height: usize,
 ) -> Lines
-    requires { ⌜ InBounds lines × (n ≤ length (now at)) × (n ≤ 16) × Narrow (now width) (now to) n × SlotsIn (now cells) (now sheet) rest × (lines .count + height < 1000000) ⌝ }
+    requires { ⌜ InBounds lines × (n ≤ length (now at)) × (n ≤ 16) × Narrow (now width) (now to) n × SlotsIn (now cells) (now sheet) rest
+        × (lines .count + height < 1000000) ⌝ }
     ensures { λ r. ⌜ InBounds r × (r .count ≡ lines .count + height) ⌝ }
-    ensures { λ r. ⌜ AddsFull (now (out .entry)) lines options (now (cells .entry)) (now (sheet .entry)) (now (at .entry)) (now (end .entry)) (now (width .entry)) (now (to .entry)) (now (hung .entry)) collapse n more rest (now (marks .entry)) height (now (out .exit)) r ⌝ }
+    ensures { λ r. ⌜ AddsFull (now (out .entry)) lines options (now (cells .entry)) (now (sheet .entry))
+        (now (at .entry)) (now (end .entry)) (now (width .entry)) (now (to .entry)) (now (hung .entry))
+        collapse n more rest (now (marks .entry)) height (now (out .exit)) r ⌝ }
 {
     let mut next = lines;
     let mut i: usize = 0;
@@ -176,4 +186,51 @@ pub fn add_full_lines(
         i += 1;
     }
     next
+}
+
+// The lines of a row, from the first lines of its seats on, so many as it is high; the marks are room for places, and all they hold is lost.
+pub fn add_row(
+    out: &mut [u8],
+    lines: Lines,
+    options: RenderOptions,
+    cells: &[u8],
+    sheet: &[u8],
+    at: &mut [usize; 16],
+    end: &[usize; 16],
+    width: &[usize; 16],
+    to: &[usize; 16],
+    hung: &[bool; 16],
+    collapse: bool,
+    kept: Kept,
+    marks: &mut [u8],
+    height: usize,
+) -> Lines
+    requires { ⌜ InBounds lines × (kept .n ≤ 16) × Narrow (now width) (now to) (kept .n) × SlotsIn (now cells) (now sheet) (kept .rest)
+        × (lines .count + height < 1000000) ⌝ }
+    ensures { λ r. ⌜ InBounds r × (r .count ≡ lines .count + height) ⌝ }
+    ensures { λ r. ⌜ (length (now (out .exit)) ≡ length (now (out .entry))) × (length (now (marks .exit)) ≡ length (now (marks .entry))) ⌝ }
+    ensures { λ r. ⌜ AddsRow (now (out .entry)) lines options (now (cells .entry)) (now (sheet .entry))
+        (now (at .entry)) (now (end .entry)) (now (width .entry)) (now (to .entry)) (now (hung .entry))
+        collapse kept height (now (out .exit)) r ⌝ }
+{
+    start_seats(cells, sheet, at, end, hung, collapse, kept.n);
+    start_ahead(marks, cells, sheet, kept.more, kept.rest, collapse);
+    add_full_lines(
+        out,
+        lines,
+        options,
+        cells,
+        sheet,
+        at,
+        end,
+        width,
+        to,
+        hung,
+        collapse,
+        kept.n,
+        kept.more,
+        kept.rest,
+        marks,
+        height,
+    )
 }

@@ -8,7 +8,7 @@ use slots::seat::Seat;
 use slots::seat::Slots;
 use slots::seat::next_slot;
 ghost use Rattle.slots.specs.Seats.{SeatIn, SlotsIn};
-ghost use Rattle.row_lines.specs.Mark.{FindsFirst, FindsCursor, CursorSet, SomeSet, StartsMark, StartsMarks};
+ghost use Rattle.row_lines.specs.Mark.{FindsFirst, FindsCursor, CursorSet, SomeSet, StartsMark, StartsMarks, StartsAhead};
 
 // The place of a seat's first line, behind a first border that collapsing takes off.
 pub fn first_place(lines: &[u8], collapse: bool) -> usize
@@ -70,7 +70,7 @@ fn start_mark(
 }
 
 // The marks of all seats ahead at their first lines.
-pub fn start_marks(marks: &mut [u8], cells: &[u8], sheet: &[u8], first: Slots, collapse: bool)
+fn start_marks(marks: &mut [u8], cells: &[u8], sheet: &[u8], first: Slots, collapse: bool)
     requires { ⌜ SlotsIn (now cells) (now sheet) first ⌝ }
     ensures { λ _. ⌜ StartsMarks (now (cells .entry)) (now (sheet .entry)) first collapse (now (marks .exit)) ⌝ }
 {
@@ -88,4 +88,22 @@ pub fn start_marks(marks: &mut [u8], cells: &[u8], sheet: &[u8], first: Slots, c
             }
         }
     }
+}
+
+// The same, where there are any.
+pub fn start_ahead(
+    marks: &mut [u8],
+    cells: &[u8],
+    sheet: &[u8],
+    more: bool,
+    first: Slots,
+    collapse: bool,
+)
+    requires { ⌜ SlotsIn (now cells) (now sheet) first ⌝ }
+    ensures { λ _. ⌜ StartsAhead (now (cells .entry)) (now (sheet .entry)) more first collapse (now (marks .exit)) ⌝ }
+{
+    if !more {
+        return;
+    }
+    start_marks(marks, cells, sheet, first, collapse);
 }

@@ -1,18 +1,17 @@
-// The lines of a row whose seats are kept. What a function here requires, its callers in this crate show.
+// The kept seats of a row on a line, and a line that is too long. What a function here requires, its callers show.
 use crate::seat::add_kept;
 use crate::seat::open_seat;
 use bodies::walk::past_top;
 use extend_lines::lines::Lines;
-use extend_lines::lines::add_text_line;
 use rows::RenderOptions;
 use tagged_line::line::Line;
 use tagged_line::line::new_line;
 ghost use mathlib.Core.Path.{_≡_};
 ghost use mathlib.Core.Bool.{true};
-ghost use Prim.Native.Nat.{_+_, _≤_, _<_};
+ghost use Prim.Native.Nat.{_≤_};
 ghost use lib.ListN.{length};
 ghost use Rattle.extend_lines.specs.Emitted.{InBounds, OneLineMore, LineBegun};
-ghost use Rattle.row_lines.specs.Row.{Narrow, isLong, PassesKept, StartsSeats, LaysKept, AddsRowLine, AddsRow, AddsKeptRow};
+ghost use Rattle.row_lines.specs.Row.{Narrow, isLong, PassesKept, StartsSeats, LaysKept};
 
 // Where the lines of a seat begin behind a first border that collapsing takes off.
 fn past_first(cells: &[u8], sheet: &[u8], hung: bool, at: usize, end: usize) -> usize
@@ -25,7 +24,7 @@ fn past_first(cells: &[u8], sheet: &[u8], hung: bool, at: usize, end: usize) -> 
 }
 
 // The places of the kept seats at their first lines, in a slice of them.
-fn start_seats(
+pub fn start_seats(
     cells: &[u8],
     sheet: &[u8],
     at: &mut [usize],
@@ -35,7 +34,9 @@ fn start_seats(
     n: usize,
 )
     requires { ⌜ (n ≤ length (now at)) × (n ≤ 16) ⌝ }
-    ensures { λ _. ⌜ StartsSeats (now (cells .entry)) (now (sheet .entry)) (now (at .entry)) (now (end .entry)) (now (hung .entry)) collapse n (now (at .exit)) ⌝ }
+    ensures { λ _. ⌜ StartsSeats (now (cells .entry)) (now (sheet .entry))
+        (now (at .entry)) (now (end .entry)) (now (hung .entry))
+        collapse n (now (at .exit)) ⌝ }
 {
     if !collapse {
         return;
@@ -75,7 +76,9 @@ pub fn lay_kept(
 ) -> Line
     requires { ⌜ InBounds lines × (n ≤ length (now at)) × (n ≤ 16) × Narrow (now width) (now to) n ⌝ }
     ensures { λ r. ⌜ LineBegun lines r 2100000 ⌝ }
-    ensures { λ r. ⌜ LaysKept (now (out .entry)) options (now (cells .entry)) (now (sheet .entry)) (now (at .entry)) (now (end .entry)) (now (width .entry)) (now (to .entry)) (now (hung .entry)) collapse n (now (out .exit)) (now (at .exit)) r ⌝ }
+    ensures { λ r. ⌜ LaysKept (now (out .entry)) options (now (cells .entry)) (now (sheet .entry))
+        (now (at .entry)) (now (end .entry)) (now (width .entry)) (now (to .entry)) (now (hung .entry))
+        collapse n (now (out .exit)) (now (at .exit)) r ⌝ }
 {
     let mut line = new_line(lines.at);
     let mut k: usize = 0;
@@ -114,130 +117,4 @@ pub fn too_long(lines: Lines) -> Lines
         count: lines.count + 1,
         long: true,
     }
-}
-
-// One line of the row.
-fn add_row_line(
-    out: &mut [u8],
-    lines: Lines,
-    options: RenderOptions,
-    cells: &[u8],
-    sheet: &[u8],
-    at: &mut [usize; 16],
-    end: &[usize; 16],
-    width: &[usize; 16],
-    to: &[usize; 16],
-    hung: &[bool; 16],
-    collapse: bool,
-    n: usize,
-) -> Lines
-    requires { ⌜ InBounds lines × (n ≤ 16) × Narrow (now width) (now to) n ⌝ }
-    ensures { λ r. ⌜ OneLineMore lines r ⌝ }
-    ensures { λ r. ⌜ AddsRowLine (now (out .entry)) lines options (now (cells .entry)) (now (sheet .entry)) (now (at .entry)) (now (end .entry)) (now (width .entry)) (now (to .entry)) (now (hung .entry)) collapse n (now (out .exit)) (now (at .exit)) r ⌝ }
-{
-    let line = lay_kept(
-        out,
-        lines,
-        options,
-        cells,
-        sheet,
-        at,
-        end,
-        width,
-        to,
-        hung,
-        collapse,
-        n,
-    );
-    if is_long(line) {
-        return too_long(lines);
-    }
-    add_text_line(out, lines, line, options)
-}
-
-// The lines of the row, so many; behind one that is too long they are only counted.
-pub fn add_lines(
-    out: &mut [u8],
-    lines: Lines,
-    options: RenderOptions,
-    cells: &[u8],
-    sheet: &[u8],
-    at: &mut [usize; 16],
-    end: &[usize; 16],
-    width: &[usize; 16],
-    to: &[usize; 16],
-    hung: &[bool; 16],
-    collapse: bool,
-    n: usize,
-    height: usize,
-) -> Lines
-    requires { ⌜ InBounds lines × (n ≤ 16) × Narrow (now width) (now to) n × (lines .count + height < 1000000) ⌝ }
-    ensures { λ r. ⌜ InBounds r × (r .count ≡ lines .count + height) ⌝ }
-    ensures { λ r. ⌜ AddsRow (now (out .entry)) lines options (now (cells .entry)) (now (sheet .entry)) (now (at .entry)) (now (end .entry)) (now (width .entry)) (now (to .entry)) (now (hung .entry)) collapse n height (now (out .exit)) r ⌝ }
-{
-    let mut next = lines;
-    let mut i: usize = 0;
-    while i < height {
-        if next.long {
-            return Lines {
-                at: next.at,
-                count: next.count + (height - i),
-                long: true,
-            };
-        }
-        next = add_row_line(
-            out,
-            next,
-            options,
-            cells,
-            sheet,
-            at,
-            end,
-            width,
-            to,
-            hung,
-            collapse,
-            n,
-        );
-        i += 1;
-    }
-    next
-}
-
-// The lines of a row of kept seats, from their first lines on.
-pub fn add_row(
-    out: &mut [u8],
-    lines: Lines,
-    options: RenderOptions,
-    cells: &[u8],
-    sheet: &[u8],
-    at: &mut [usize; 16],
-    end: &[usize; 16],
-    width: &[usize; 16],
-    to: &[usize; 16],
-    hung: &[bool; 16],
-    collapse: bool,
-    n: usize,
-    height: usize,
-) -> Lines
-    requires { ⌜ InBounds lines × (n ≤ 16) × Narrow (now width) (now to) n × (lines .count + height < 1000000) ⌝ }
-    ensures { λ r. ⌜ InBounds r × (r .count ≡ lines .count + height) ⌝ }
-    ensures { λ r. ⌜ AddsKeptRow (now (out .entry)) lines options (now (cells .entry)) (now (sheet .entry)) (now (at .entry)) (now (end .entry)) (now (width .entry)) (now (to .entry)) (now (hung .entry)) collapse n height (now (out .exit)) r ⌝ }
-{
-    start_seats(cells, sheet, at, end, hung, collapse, n);
-    add_lines(
-        out,
-        lines,
-        options,
-        cells,
-        sheet,
-        at,
-        end,
-        width,
-        to,
-        hung,
-        collapse,
-        n,
-        height,
-    )
 }

@@ -6,6 +6,7 @@ use holes::draw::push_holed;
 use places::border::border_parts;
 use rows::RenderOptions;
 use tagged_line::line::Line;
+use tagged_line::line::push_bar;
 use tagged_line::line::push_drawn;
 use tagged_line::line::push_str;
 use tagged_line::line::push_ws;
@@ -14,7 +15,7 @@ ghost use mathlib.Core.Path.{_≡_};
 ghost use Prim.Native.Nat.{_<_};
 ghost use lib.ListN.{length};
 ghost use Rattle.tagged_line.specs.Held.{Within, LineGrown};
-ghost use Rattle.row_lines.specs.Seat.{seatMost, AddedIn, AddsCellText, AddsPattern, AddsLine, leavesPattern, AddsSeat, AddsKept, AddsEdge, OpensSeat};
+ghost use Rattle.row_lines.specs.Seat.{seatMost, AddedIn, AddsCellText, AddsPattern, AddsBorder, leavesPattern, AddsSeat, AddsKept, AddsEdge, OpensSeat};
 
 // A line with what a seat gave to it, and the place of the seat's next line.
 pub struct Added {
@@ -64,8 +65,8 @@ fn add_pattern(
     push_drawn(out, line, options.annotation, segs, n, to, true)
 }
 
-// A line of a seat: a text, or a border with its holes.
-fn add_line_of(
+// A border of a seat, with its holes.
+fn add_border_of(
     out: &mut [u8],
     line: Line,
     options: RenderOptions,
@@ -75,11 +76,8 @@ fn add_line_of(
 ) -> Line
     requires { ⌜ Within line seatMost × (length (now content) < 65536) × (to < 256) ⌝ }
     ensures { λ r. ⌜ LineGrown line r seatMost ⌝ }
-    ensures { λ r. ⌜ AddsLine (now (out .entry)) line options letter (now (content .entry)) to (now (out .exit)) r ⌝ }
+    ensures { λ r. ⌜ AddsBorder (now (out .entry)) line options letter (now (content .entry)) to (now (out .exit)) r ⌝ }
 {
-    if letter == b'L' {
-        return add_cell_text(out, line, options, content, to);
-    }
     let parts = border_parts(letter, content);
     push_holed(
         out,
@@ -134,6 +132,12 @@ pub fn add_seat(
             start,
             next,
         } => {
+            if letter == b'L' {
+                return Added {
+                    line: add_cell_text(out, line, options, &s[start..next], to),
+                    next,
+                };
+            }
             if leaves_pattern(collapse, letter, next, end) {
                 return Added {
                     line: add_pattern(out, line, options, letter, &s[start..next], to),
@@ -141,7 +145,7 @@ pub fn add_seat(
                 };
             }
             Added {
-                line: add_line_of(out, line, options, letter, &s[start..next], to),
+                line: add_border_of(out, line, options, letter, &s[start..next], to),
                 next,
             }
         }
@@ -181,7 +185,7 @@ fn add_edge(out: &mut [u8], line: Line, options: RenderOptions) -> Line
     ensures { λ r. ⌜ AddsEdge (now (out .entry)) line options (now (out .exit)) r ⌝ }
 {
     if options.borders {
-        return push_str(out, line, options.annotation, b"\xE2\x94\x82", 1);
+        return push_bar(out, line, options.annotation);
     }
     push_str(out, line, options.annotation, b" ", 1)
 }

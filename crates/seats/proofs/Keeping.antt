@@ -1,6 +1,6 @@
 -- Laws of the seats of a row as they are kept, one after the other, in arrays.
 -- Assumes nothing.
-use mathlib.Core.Path.{_≡_, refl, sym, ap, _∙_}
+use mathlib.Core.Path.{_≡_, refl, sym, ap, subst, _∙_}
 use mathlib.Core.Bool.{Bool, true, false}
 use mathlib.Core.List.{List, [], _∷_, _++_, append-assoc}
 use Prim.Native.Nat.{ℕ, _+_, _≤_, _<_}
@@ -10,12 +10,13 @@ use lib.Dec.{eqb}
 use lib.ListN.{length, drop, getD, set, length-append, length-set, List·getD-append}
 use lib.Seq.{getD-set-same, getD-set-other, getD-at, drop-cons}
 use borrow.Author.Tests.{eqb-true, eqb-false}
-use Rattle.spans.specs.Columns.{Slot, slot}
+use Rattle.rows.specs.Columns.{Slot, slot}
 use Rattle.slots.specs.Seats.{SeatIs, SeatIn, SlotsIn, SlotsLeft, FoundIn, FindsNext}
 use Rattle.slots.specs.declared.seat.Seat.{Seat}
 use Rattle.slots.specs.declared.seat.Slots.{Slots}
 use Rattle.slots.specs.declared.seat.Next.the-variants.{Is, NoMore}
-use Rattle.seats.specs.Keep.{KeptSeatIn, KeptSeat, SeatsIn, slotAt, SeatsAre, KeptIn, KeepsSeats}
+use Rattle.seats.specs.Keep.{KeptSeatIn, KeptSeat, SeatsIn, slotAt, SeatsAre, KeptIn, RowIn, RestIn, KeepsRest, KeepsSeats}
+use Rattle.seats.specs.declared.keep.Kept.{Kept}
 
 -- ---- one entry more
 
@@ -159,29 +160,44 @@ stops cells sheet first ats es ws ts ns hs st k t loop low g = (
     no b = cc
 
 -- After 16 seats.
-pub fills : (cells sheet : List ℕ) (first : Slots) (ats es ws ts ns : List ℕ) (hs : List Bool) (st : Slots) (k : ℕ)
-    → Loop cells sheet first ats es ws ts ns hs st k
-    → KeptIn cells sheet ats es ws ts ns hs (record { n = k; more = true; total = 0; rest = st })
-    × KeepsSeats cells sheet first ats es ws ts ns hs (record { n = k; more = true; total = 0; rest = st })
-fills cells sheet first ats es ws ts ns hs st k loop = (
-  record { few = loop .few; low = omega arith; seats-in = loop .seats-in; rest-in = loop .rest-in },
-  λ xs total l.
-      let i = loop .keeping xs total l in
+pub fills : (cells sheet : List ℕ) (first : Slots) (ats es ws ts ns : List ℕ) (hs : List Bool) (st : Slots) (k : ℕ) (kept : Kept)
+    → Loop cells sheet first ats es ws ts ns hs st k → RestIn k st kept → KeepsRest cells sheet st kept
+    → KeptIn cells sheet ats es ws ts ns hs kept × KeepsSeats cells sheet first ats es ws ts ns hs kept
+fills cells sheet first ats es ws ts ns hs st k kept loop r f =
+    let n : kept .n ≡ k = r .n-is in
+    let e = sym (r .rest-is) in (
       record {
-        ys = i .ys;
-        zs = i .zs;
-        are = i .are;
-        count = i .count;
-        seats-are = i .seats-are;
-        ahead = λ b. i .ahead;
-        ended = λ b. absurd (omega (arith, no b));
+        few = omega (arith, loop .few);
+        low = r .low;
+        seats-in = λ j h. loop .seats-in j (omega (arith, h));
+        rest-in = subst (SlotsIn cells sheet) e (loop .rest-in);
       },
-)
-  where
-    no : true ≡ false → _≡_ {A = ℕ} 0 1
-    no b = cc
+      λ xs total l.
+          let i = loop .keeping xs total l in
+          record {
+            ys = i .ys;
+            zs = i .zs;
+            are = i .are;
+            count = i .count ∙ sym n;
+            seats-are = λ j h. i .seats-are j (omega (arith, h));
+            ahead = λ b. subst (λ (z : Slots). SlotsLeft cells sheet z (i .zs) total) e (i .ahead);
+            ended = f (i .zs) total (i .ahead);
+          },
+    )
 
 -- ---- for those who walk the kept seats
+
+-- The numbers of the kept seats are those that a walk needs.
+pub row-in : (cells sheet at end width to span : List ℕ) (hung : List Bool) (kept : Kept) → KeptIn cells sheet at end width to span hung kept
+    → RowIn cells sheet at end width kept
+row-in cells sheet at end width to span hung kept i =
+    record {
+      few = i .few;
+      narrow = λ k h. i .seats-in k h .narrow;
+      ordered = λ k h. i .seats-in k h .order;
+      near = λ k h. i .seats-in k h .near;
+      rest-in = i .rest-in;
+    }
 
 -- The kept seats from one on: that one and the others.
 pub kept-on : (xs : List Slot) (k n : ℕ) → length xs ≡ n → k < n → drop k xs ≡ slotAt xs k ∷ drop (k + 1) xs

@@ -1,1 +1,3 @@
 pub mod Keeping
+pub mod SurveyLaws
+pub mod PlainLaws

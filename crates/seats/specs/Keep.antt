@@ -5,9 +5,9 @@ use mathlib.Core.Bool.{Bool, true, false}
 use mathlib.Core.List.{List, [], _++_}
 use Prim.Native.Nat.{ℕ, _+_, _≤_, _<_}
 use lib.ListN.{length, getD}
-use Rattle.spans.specs.Sheet.{isSpan, readableLines}
-use Rattle.spans.specs.Places.{LinesAt}
-use Rattle.spans.specs.Columns.{Slot, slot}
+use Rattle.fields.specs.Spans.{isSpan, readableLines}
+use Rattle.fields.specs.Places.{LinesAt}
+use Rattle.rows.specs.Columns.{Slot, slot}
 use Rattle.slots.specs.Seats.{source, SlotsIn, SlotsLeft}
 use Rattle.slots.specs.declared.seat.Slots.{Slots}
 use Rattle.seats.specs.declared.keep.Kept.{Kept}
@@ -57,6 +57,26 @@ pub record KeptIn (cells sheet at end width to span : List ℕ) (hung : List Boo
   pub seats-in : SeatsIn cells sheet at end width to span hung (kept .n)
   pub rest-in : SlotsIn cells sheet (kept .rest)
 
+-- no kept seat has a width past that of a filling cell
+abbrev pub AllNarrow : List ℕ → ℕ → Type 0
+AllNarrow width n = (k : ℕ) → k < n → getD width k 0 < 65791
+
+-- the lines of each kept seat end behind their start
+abbrev pub AllOrdered : List ℕ → List ℕ → ℕ → Type 0
+AllOrdered at end n = (k : ℕ) → k < n → getD at k 0 ≤ getD end k 0
+
+-- they stand in one field
+abbrev pub AllNear : List ℕ → List ℕ → ℕ → Type 0
+AllNear at end n = (k : ℕ) → k < n → getD end k 0 ≤ getD at k 0 + 65535
+
+-- the numbers of a row that a walk over it needs
+pub record RowIn (cells sheet at end width : List ℕ) (kept : Kept) : Type 0 where
+  pub few : kept .n ≤ 16
+  pub narrow : AllNarrow width (kept .n)
+  pub ordered : AllOrdered at end (kept .n)
+  pub near : AllNear at end (kept .n)
+  pub rest-in : SlotsIn cells sheet (kept .rest)
+
 -- the seats of a row: the first stand in the arrays, the others are ahead, or there are none and the row's width, one too high, is known
 pub record RowKept (cells sheet at end width to span : List ℕ) (hung : List Bool) (kept : Kept) (xs : List Slot) (total : ℕ) : Type 0 where
   pub ys : List Slot
@@ -66,6 +86,17 @@ pub record RowKept (cells sheet at end width to span : List ℕ) (hung : List Bo
   pub seats-are : SeatsAre cells sheet at end width to span hung (kept .n) ys
   pub ahead : kept .more ≡ true → SlotsLeft cells sheet (kept .rest) zs total
   pub ended : kept .more ≡ false → (zs ≡ []) × (total ≡ kept .total)
+
+-- numbers of `keep_rest`: so many seats are kept, and so much is ahead
+pub record RestIn (n : ℕ) (ahead : Slots) (kept : Kept) : Type 0 where
+  pub n-is : kept .n ≡ n
+  pub rest-is : kept .rest ≡ ahead
+  pub low : kept .total ≤ 65791
+
+-- `keep_rest`
+abbrev pub KeepsRest : List ℕ → List ℕ → Slots → Kept → Type 0
+KeepsRest cells sheet ahead kept =
+    (xs : List Slot) (total : ℕ) → SlotsLeft cells sheet ahead xs total → kept .more ≡ false → (xs ≡ []) × (total ≡ kept .total)
 
 -- `keep_seats`
 abbrev pub KeepsSeats : List ℕ → List ℕ → Slots → List ℕ → List ℕ → List ℕ → List ℕ → List ℕ → List Bool → Kept → Type 0

@@ -1,1 +1,2 @@
 pub mod Keep
+pub mod Survey

@@ -3,14 +3,37 @@ use slots::seat::Next;
 use slots::seat::Slots;
 use slots::seat::next_slot;
 ghost use Rattle.slots.specs.Seats.{SlotsIn};
-ghost use Rattle.seats.specs.Keep.{KeptIn, KeepsSeats};
+ghost use Rattle.seats.specs.Keep.{RestIn, KeepsRest, KeptIn, KeepsSeats};
 
-// How many seats stand in the arrays, whether there may be more, the row's width, one too high, where there are none, and what is ahead behind them.
+// How many seats stand in the arrays, whether there are more, the row's width, one too high, where there are none, and what is ahead behind them.
 pub struct Kept {
     pub n: usize,
     pub more: bool,
     pub total: usize,
     pub rest: Slots,
+}
+
+// What is kept where the arrays are full: a look at what is ahead tells whether there are more seats.
+fn keep_rest(cells: &[u8], sheet: &[u8], n: usize, ahead: Slots) -> Kept
+    requires { ⌜ SlotsIn (now cells) (now sheet) ahead ⌝ }
+    ensures { λ r. ⌜ RestIn n ahead r ⌝ }
+    ensures { λ r. ⌜ KeepsRest (now (cells .entry)) (now (sheet .entry)) ahead r ⌝ }
+{
+    let next = next_slot(cells, sheet, ahead);
+    match next {
+        Next::Is { seat: _, rest: _ } => Kept {
+            n,
+            more: true,
+            total: 0,
+            rest: ahead,
+        },
+        Next::NoMore(total) => Kept {
+            n,
+            more: false,
+            total,
+            rest: ahead,
+        },
+    }
 }
 
 // The first seats of the row, at most 16.
@@ -60,10 +83,5 @@ pub fn keep_seats(
             }
         }
     }
-    Kept {
-        n: k,
-        more: true,
-        total: 0,
-        rest: st,
-    }
+    keep_rest(cells, sheet, k, st)
 }

@@ -17,8 +17,8 @@ use Rattle.fields.proofs.Fields.{field-is, field-broken, field-end}
 use Rattle.fields.proofs.Readings.{ReadFirst, read-first, read-none}
 use Rattle.fields.proofs.Parts.{drop-take}
 use Rattle.rows.proofs.Reading.{OnSome, some-of}
-use Rattle.spans.specs.Sheet.{RenderLine, Cell, cell, readLine, isSpan, readCellContent, readSpanContent, readCell}
-use Rattle.spans.specs.Places.{CellsFrom}
+use Rattle.fields.specs.Spans.{RenderLine, Cell, cell, readLine, isSpan, readCellContent, readSpanContent, readCell}
+use Rattle.fields.specs.Places.{CellsFrom}
 use Rattle.slots.specs.Cell.{FirstCell}
 use Rattle.slots.proofs.Laws.{found-at}
 

@@ -13,12 +13,12 @@ use lib.Seq.{length-take-le, drop-drop, getD-take, getD-drop}
 use Rattle.characters.proofs.Tests.{by-if, lt-or-le}
 use Rattle.fields.specs.Field.{whole, raws, readAll, fieldAt, part}
 use Rattle.fields.specs.declared.field.Field.the-variants.{At, Broken, End}
-use Rattle.fields.proofs.Fields.{field-is, field-broken, field-end}
+use Rattle.fields.proofs.Fields.{raws-nil, field-is, field-broken, field-end}
 use Rattle.fields.proofs.Readings.{read-first, read-none}
 use Rattle.fields.proofs.Parts.{drop-take}
 use Rattle.rows.proofs.Reading.{OnSome, some-of}
-use Rattle.spans.specs.Sheet.{RenderLine, Hanging, hanging, readLine, isSpan, readHangingContent, readHanging}
-use Rattle.spans.specs.Places.{HungFrom}
+use Rattle.fields.specs.Spans.{RenderLine, Hanging, hanging, readLine, isSpan, readHangingContent, readHanging}
+use Rattle.fields.specs.Places.{LinesAt, HungFrom}
 use Rattle.slots.specs.Hung.{FirstHung}
 
 -- the parts of a V field's content
@@ -117,3 +117,11 @@ pub hung-found : (s : List ℕ) (at l st nx pos w r : ℕ) → fieldAt at (drop 
 hung-found s at l st nx pos w r e p q m vs g =
     let f = found-at s at l st nx e in
     rw (p, q, m) (hung-there s at l st nx vs (f .low) e g .1)
+
+-- No lines stand at one place.
+pub lines-nil : (s : List ℕ) (at : ℕ) → at ≤ length s → LinesAt s at at []
+unfolding readAll
+lines-nil s at h =
+    let z : at - at ≡ 0 = omega arith in
+    let e : part at at s ≡ [] = ap (λ (m : ℕ). take m (drop at s)) z in
+    record { order = omega arith; inside = h; reads = rw (e, raws-nil) }

@@ -11,13 +11,11 @@ use borrow.Author.Tests.{lt-ltb, le-ltb, leb-true, leb-false, ltb-true}
 use Rattle.characters.specs.If.{if_then_else_}
 use Rattle.characters.proofs.Tests.{by-if, and-left, and-right}
 use Rattle.fields.specs.Field.{all}
-use Rattle.rows.specs.SubRenderer.{max}
-use Rattle.rows.specs.Columns.{totalWidth}
-use Rattle.spans.specs.Sheet.{Hanging, Cell, readableLines, readableHanging, readableCell}
-use Rattle.spans.specs.SubRenderer.{reach}
-use Rattle.spans.specs.Columns.{Slot, slot, cellSlots, hungSlot, slotsAt, nextPos, gapSlot, putSlot, slotsFrom, reachPast, totalFrom, slotWidths, rowSlots}
-use Rattle.spans.proofs.Columns.{next-slot, last-slot}
-use Rattle.slots.proofs.Lines.{lines-nil}
+use Rattle.rows.specs.SubRenderer.{max, reach}
+use Rattle.rows.specs.Columns.{totalWidth, Slot, slot, cellSlots, hungSlot, slotsAt, nextPos, gapSlot, putSlot, slotsFrom, reachPast, totalFrom, slotWidths, rowSlots}
+use Rattle.fields.specs.Spans.{Hanging, Cell, readableLines, readableHanging, readableCell}
+use Rattle.rows.proofs.Columns.{next-slot, last-slot}
+use Rattle.slots.proofs.Laws.{lines-nil}
 use Rattle.slots.specs.declared.cell.Laid.the-variants.{Lies, NoCell}
 use Rattle.slots.specs.declared.seat.Seat.{Seat}
 use Rattle.slots.specs.declared.seat.Slots.{Slots}

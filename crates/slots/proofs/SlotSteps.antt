@@ -9,8 +9,8 @@ use lib.ListN.{length}
 use borrow.Author.Tests.{lt-ltb, le-ltb}
 use Rattle.characters.proofs.Tests.{and-left}
 use Rattle.fields.specs.Field.{all}
-use Rattle.spans.specs.Sheet.{Hanging, readableHanging}
-use Rattle.spans.specs.Columns.{Slot}
+use Rattle.fields.specs.Spans.{Hanging, readableHanging}
+use Rattle.rows.specs.Columns.{Slot}
 use Rattle.slots.specs.declared.cell.Laid.the-variants.{Lies, NoCell}
 use Rattle.slots.specs.declared.hung.Hung.the-variants.{Hangs}
 use Rattle.slots.specs.declared.hung.Hung.the-variants as hung-variants

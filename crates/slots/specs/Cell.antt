@@ -5,8 +5,8 @@ use mathlib.Core.List.{List, [], _∷_}
 use mathlib.Core.Bool.{true}
 use Prim.Native.Nat.{ℕ, _+_, _≤_, _<_}
 use lib.ListN.{length}
-use Rattle.spans.specs.Sheet.{Cell, isSpan}
-use Rattle.spans.specs.Places.{LinesAt, CellsFrom}
+use Rattle.fields.specs.Spans.{Cell, isSpan}
+use Rattle.fields.specs.Places.{LinesAt, CellsFrom}
 use Rattle.slots.specs.declared.cell.Laid.{Laid}
 use Rattle.slots.specs.declared.cell.Laid.the-variants.{Lies, NoCell}
 

@@ -5,8 +5,8 @@ use mathlib.Core.List.{List, [], _∷_}
 use mathlib.Core.Bool.{true}
 use Prim.Native.Nat.{ℕ, _+_, _≤_, _<_}
 use lib.ListN.{length}
-use Rattle.spans.specs.Sheet.{Hanging, isSpan}
-use Rattle.spans.specs.Places.{LinesAt, HungFrom}
+use Rattle.fields.specs.Spans.{Hanging, isSpan}
+use Rattle.fields.specs.Places.{LinesAt, HungFrom}
 use Rattle.slots.specs.declared.hung.Hung.{Hung}
 use Rattle.slots.specs.declared.hung.Hung.the-variants.{Hangs, NoMore}
 

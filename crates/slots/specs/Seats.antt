@@ -9,10 +9,9 @@ use lib.Dec.{ltb}
 use Rattle.characters.specs.If.{if_then_else_}
 use Rattle.fields.specs.Field.{all}
 use Rattle.rows.specs.SubRenderer.{max}
-use Rattle.rows.specs.Columns.{totalWidth}
-use Rattle.spans.specs.Sheet.{Hanging, Cell, isSpan, readableLines, readableHanging, readableCell}
-use Rattle.spans.specs.Places.{LinesAt, HungFrom, CellsFrom}
-use Rattle.spans.specs.Columns.{Slot, cellSlots, hungSlot, slotsFrom, totalFrom, slotWidths, rowSlots}
+use Rattle.rows.specs.Columns.{totalWidth, Slot, cellSlots, hungSlot, slotsFrom, totalFrom, slotWidths, rowSlots}
+use Rattle.fields.specs.Spans.{Hanging, Cell, isSpan, readableLines, readableHanging, readableCell}
+use Rattle.fields.specs.Places.{LinesAt, HungFrom, CellsFrom}
 use Rattle.slots.specs.declared.seat.Seat.{Seat}
 use Rattle.slots.specs.declared.seat.Slots.{Slots}
 use Rattle.slots.specs.declared.seat.Next.{Next}

@@ -19,8 +19,8 @@ use Rattle.fields.proofs.Sets.{sets-append, sets-before, wrote-then}
 use Rattle.borders.specs.BorderSegHoriz.{Horiz}
 use Rattle.borders.specs.BorderHoriz.{stretch-to, glyph, drawn}
 use Rattle.borders.proofs.Drawing.{glyph-cols, drawn-append, drawn-chars}
-use Rattle.block.specs.Demands.{WellFormed}
-use Rattle.rows.specs.TaggedLine.{join, push-str, push-ws, pad-to}
+use Rattle.fields.specs.Text.{WellFormed}
+use Rattle.fields.specs.TaggedLine.{join, push-str, push-ws, pad-to}
 use Rattle.rows.proofs.Lines.{text-width-nil, push-width, push-formed, spaces-formed, spaces-width}
 use Rattle.tagged_line.specs.Held.{LineGrown, Held, MakesRoom, Pushes, PushesSpaces, Pads, Draws}
 use Rattle.tagged_line.specs.declared.line.Line.{Line}

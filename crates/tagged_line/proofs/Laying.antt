@@ -21,8 +21,8 @@ use Rattle.fields.proofs.Readings.{read-first}
 use Rattle.fields.proofs.Fields.{FieldIs}
 use Rattle.fields.proofs.Back.{every-append}
 use Rattle.fields.proofs.Sets.{sets-append, wrote-then, wrote-none}
-use Rattle.block.specs.Demands.{WellFormed}
-use Rattle.rows.specs.TaggedLine.{WellFormedPiece, join, push, addPiece, addPieces}
+use Rattle.fields.specs.Text.{WellFormed}
+use Rattle.fields.specs.TaggedLine.{WellFormedPiece, join, push, addPiece, addPieces}
 use Rattle.rows.proofs.Lines.{line-width-append, readable-formed}
 use Rattle.tagged_line.specs.Held.{Within, LineGrown, Held, Pushes}
 use Rattle.tagged_line.specs.Pieces.{PiecesOf, AddsFragment, AddsTextPiece, AddsPiece, AddsPieces, Copies}

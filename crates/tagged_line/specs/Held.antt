@@ -10,8 +10,8 @@ use Rattle.fields.specs.Sheet.{Piece, str, piecesBytes}
 use Rattle.fields.specs.Widths.{text-width, width}
 use Rattle.fields.proofs.Back.{Every}
 use Rattle.borders.specs.BorderHoriz.{drawn, stretch-to}
-use Rattle.block.specs.Demands.{WellFormed}
-use Rattle.rows.specs.TaggedLine.{WellFormedPiece, join, push-str, push-ws, pad-to}
+use Rattle.fields.specs.Text.{WellFormed}
+use Rattle.fields.specs.TaggedLine.{WellFormedPiece, join, push-str, push-ws, pad-to}
 use Rattle.tagged_line.specs.declared.line.Line.{Line}
 
 -- ---- numbers

@@ -8,7 +8,7 @@ use Prim.Native.Nat.{ℕ}
 use Rattle.fields.specs.Field.{whole, raws, readAll, all}
 use Rattle.fields.specs.Sheet.{Piece, fragment, readStr, readPiece, readablePiece, piecesBytes}
 use Rattle.fields.specs.Store.{Wrote}
-use Rattle.rows.specs.TaggedLine.{addPiece, addPieces}
+use Rattle.fields.specs.TaggedLine.{addPiece, addPieces}
 use Rattle.tagged_line.specs.Held.{Held}
 use Rattle.tagged_line.specs.declared.line.Line.{Line}
 

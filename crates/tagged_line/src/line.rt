@@ -8,6 +8,7 @@ use fields::store::put_head;
 use fields::store::put_repeat;
 use fields::store::put_two;
 ghost use mathlib.Core.Path.{_≡_};
+ghost use mathlib.Core.List.{[], _∷_};
 ghost use Prim.Native.Nat.{_+_, _-_, _*_, _^_, _≤_, _<_};
 ghost use lib.ListN.{length};
 ghost use Rattle.borders.specs.BorderHoriz.{drawn};
@@ -91,6 +92,18 @@ pub fn push_str(out: &mut [u8], line: Line, annotation: u8, text: &[u8], cols: u
     let n = text.len();
     let next = open_text(out, line, annotation, n, cols);
     put_bytes(out, next.at - n, text);
+    next
+}
+
+// `push_str` of │, which has one column.
+pub fn push_bar(out: &mut [u8], line: Line, annotation: u8) -> Line
+    requires { ⌜ Within line 8 ⌝ }
+    ensures { λ r. ⌜ LineGrown line r 8 ⌝ }
+    ensures { λ r. ⌜ Pushes (now (out .entry)) line annotation (0xE2 ∷ 0x94 ∷ 0x82 ∷ []) 1 (now (out .exit)) r ⌝ }
+{
+    let next = open_text(out, line, annotation, 3, 1);
+    let second = put_byte(out, next.at - 3, 0xE2);
+    put_two(out, second, 0x9482);
     next
 }
 

@@ -4,8 +4,8 @@ use Prim.Native.Nat.{_-_}
 use native.Mathlib.Omega.{arith}
 use lib.ListN.{length, drop}
 use denote.Ref.{now}
-use Rattle.spans.specs.Sheet.{rawHoles}
-use Rattle.spans.specs.Refusals.{holesRefusal}
+use Rattle.fields.specs.Spans.{rawHoles}
+use Rattle.fields.specs.SpanRefusals.{holesRefusal}
 use Rattle.places.specs.Hole.{HoleIn, RawAt}
 use Rattle.places.specs.declared.hole.HoleAt.the-variants.{At}
 use Rattle.fields.proofs.Parts.{part-length}

@@ -11,7 +11,7 @@ use Rattle.fields.proofs.Fields.{FieldIs, field-is, field-broken, field-end}
 use Rattle.fields.proofs.First.{Walk, walk-start, walk-on, walk-broken, walk-end}
 use Rattle.fields.proofs.Parts.{part-length}
 use Rattle.fields.proofs.Texts.{rest}
-use Rattle.spans.specs.Refusals.{lineRefusal, linesRefusal}
+use Rattle.fields.specs.SpanRefusals.{lineRefusal, linesRefusal}
 use Rattle.checks.proofs.LineLaws.{broken-line}
 use borrow.Author.Needs.{needs}
 use Rattle.checks.proofs.lines.lines_refusal.Statement.{statement}

@@ -1,6 +1,6 @@
 -- `border::chop_left_at` meets its contract: the segment at the place is chopped, if the buffer has it. Assumes nothing.
 use denote.Ref.{now}
-use Rattle.spans.specs.BorderSegHoriz.{chop-left}
+use Rattle.borders.specs.BorderSegHoriz.{chop-left}
 use Rattle.long_borders.proofs.Laws.{changed, changed-past}
 use borrow.Author.Needs.{needs}
 use Rattle.long_borders.proofs.border.chop_left_at.Statement.{statement}

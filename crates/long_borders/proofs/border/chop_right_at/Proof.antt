@@ -1,6 +1,6 @@
 -- `border::chop_right_at` meets its contract: the segment at the place is chopped, if the buffer has it. Assumes nothing.
 use denote.Ref.{now}
-use Rattle.spans.specs.BorderSegHoriz.{chop-right}
+use Rattle.borders.specs.BorderSegHoriz.{chop-right}
 use Rattle.long_borders.proofs.Laws.{changed, changed-past}
 use borrow.Author.Needs.{needs}
 use Rattle.long_borders.proofs.border.chop_right_at.Statement.{statement}

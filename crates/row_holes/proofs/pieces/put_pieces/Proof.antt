@@ -11,7 +11,7 @@ use mathlib.Core.List.{List}
 use Rattle.fields.proofs.Fields.{FieldIs, field-is, field-broken, field-end}
 use Rattle.fields.specs.Sheet.{str}
 use Rattle.tagged_line.proofs.Laying.{content-size}
-use Rattle.spans.specs.Sheet.{Hole}
+use Rattle.fields.specs.Spans.{Hole}
 use Rattle.row_holes.specs.Pieces.{withSpaces}
 use Rattle.row_holes.proofs.PieceLaws.{Reached, reach-start, reach-on, reach-broken, reach-full, reach-short, PutFor, put-none, put-then, put-one, put-spaces, put-grown, put-last}
 use borrow.Author.Needs.{needs}

@@ -1,7 +1,6 @@
 -- `mark::cursor` meets its contract: the mark, or the place that is found anew. Assumes nothing.
 use mathlib.Core.Path.{ap₂}
 use Prim.Native.Nat.{ℕ, _+_, _*_}
-use native.Mathlib.Omega.{arith}
 use denote.Ref.{now}
 use Rattle.row_lines.proofs.MarkLaws.{cursor-mark, cursor-found}
 use borrow.Author.Needs.{needs}

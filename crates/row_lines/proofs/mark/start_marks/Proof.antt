@@ -1,6 +1,5 @@
 -- `mark::start_marks` meets its contract: the marks of the seats that were passed stand at their first lines. Assumes nothing.
 use mathlib.Core.Path.{subst}
-use native.Mathlib.Omega.{arith}
 use Rattle.row_lines.proofs.RestLaws.{MarksSet, marks-start, marks-end, marks-on}
 use Rattle.slots.specs.Seats.{slotsMeasure, NextIn, FindsNext}
 use borrow.Author.Needs.{needs}

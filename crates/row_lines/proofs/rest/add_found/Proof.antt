@@ -5,7 +5,6 @@ use denote.Ref.{now}
 use Rattle.row_lines.proofs.RestLaws.{found-added, hung-inside, laid-inside, part-short}
 use Rattle.slots.specs.Seats.{source}
 use Rattle.extend_lines.proofs.Handing.{bytes-known}
-use Rattle.fields.proofs.Parts.{part-length}
 use borrow.Author.Needs.{needs}
 use Rattle.row_lines.proofs.rest.add_found.Statement.{statement}
 use Rattle.row_lines.proofs.rest.add_found.Tie as tie

@@ -1,6 +1,5 @@
 -- `rest::lay_rest` meets its contract: the seats that were passed are on the line, and their marks stand one line further. Assumes nothing.
 use mathlib.Core.Path.{sym, subst, _∙_}
-use native.Mathlib.Omega.{arith}
 use Rattle.row_lines.proofs.RestLaws.{RestLaid, rest-start, rest-edge, rest-room, rest-long, rest-end, rest-on, start-begun, rest-begun, start-below}
 use Rattle.row_lines.proofs.RowLaws.{startOf}
 use Rattle.slots.specs.Seats.{slotsMeasure, NextIn, FindsNext}

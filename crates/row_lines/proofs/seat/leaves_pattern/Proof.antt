@@ -1,6 +1,5 @@
 -- `seat::leaves_pattern` meets its contract. Assumes nothing.
 use borrow.Author.Tests.{not-true, not-false, eq-eqb, ne-eqb}
-use borrow.Author.Needs.{needs}
 use Rattle.row_lines.proofs.seat.leaves_pattern.Statement.{statement}
 use Rattle.row_lines.proofs.seat.leaves_pattern.Tie as tie
 

@@ -73,8 +73,11 @@ enum-known-next-2 c = search needs
 returns : tie.Need-returns Inv-loop μ-loop
 returns c = stops _ _ _ _ _ _ _ _ _ _ _ _ (c .before .before .before .before .before .loop .inv) (subst (NextIn _ _ _) (c .before .next2 .given .1) (c .before .before .before .next-slot .ensures .0)) (subst (FindsNext _ _ _) (c .before .next2 .given .1) (c .before .before .before .next-slot .ensures .1))
 
+keep-rest-requires : tie.Need-keep-rest-requires Inv-loop μ-loop
+keep-rest-requires c κs = c .before .loop .inv .rest-in
+
 returns-2 : tie.Need-returns-2 Inv-loop μ-loop
-returns-2 c = fills _ _ _ _ _ _ _ _ _ _ _ (c .before .loop .inv)
+returns-2 c = fills _ _ _ _ _ _ _ _ _ _ _ (c .keep-rest .result) (c .before .before .loop .inv) (c .keep-rest .ensures .0) (c .keep-rest .ensures .1)
 
 pub keep-seats-spec : {M : Type 1} → statement M
 keep-seats-spec =
@@ -101,4 +104,5 @@ keep-seats-spec =
     loop-again
     enum-known-next-2
     returns
+    keep-rest-requires
     returns-2)
