@@ -1,5 +1,5 @@
-pub mod CellLaws
-pub mod Placing
-pub mod EdgeLaws
-pub mod RowLaws
-pub mod LaidLaws
+pub mod OldLaws
+pub mod TaggedLaws
+pub mod BelowLaws
+pub mod LayLaws
+pub mod CallLaws

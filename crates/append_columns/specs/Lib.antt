@@ -1,4 +1,3 @@
-pub mod Cells
-pub mod Edges
-pub mod Row
-pub mod Laid
+pub mod Old
+pub mod Below
+pub mod Lay

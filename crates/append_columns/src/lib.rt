@@ -1,27 +1,28 @@
-// `append_columns_with_borders` (document 01, "Rows and blocks on a sheet"): a row of cells beside each other, the border above it joined to
-// their inner edges, the border below it likewise, and with collapsing the cells' first and last borders merged into the two.
-// No heap: where each cell stands is kept in arrays of 16, and a border is put together in 69,632 bytes of stack.
-mod cells;
-mod edges;
-mod row;
-mod sheet;
+// `append_columns_with_borders` (document 01, "Rows and blocks on a sheet", and request 2.1): a row of cells beside each other, among them
+// those that hang from the rows above; the border above it joined to their inner edges, the border below it likewise, with holes for the cells
+// that hang on, and with collapsing the cells' first and last borders merged into the two. No heap: the first 16 cells are kept in arrays, a
+// border is put together in 65,536 bytes of stack, and a line that comes where the border is in as many.
+mod below;
+mod lay;
+mod old;
 
-use crate::cells::last_line;
-use crate::cells::starts_border;
-use crate::sheet::lay;
+use crate::lay::lay;
+use crate::old::ends_in_border;
+use bodies::walk::last_line;
+use checks::cells::cells_refusal;
+use checks::sheet::first_hanging;
+use checks::sheet::sheet_refusal;
 use fields::answer::Rendered;
 use fields::answer::refuse;
-use fields::cells::cells_refusal;
 use fields::field::first_of;
-use fields::sheet::sheet_refusal;
 use rows::RenderOptions;
 use rows::width_refusal;
 ghost use mathlib.Core.Path.{_≡_};
 ghost use Rattle.fields.specs.Answer.{rendered};
 ghost use Rattle.rows.specs.Answer.{columnsAnswer};
 
-// The cells as a row under the sheet's last line; collapsing takes off the cells' first and last borders. Number, length and every
-// byte of the store are those of `columnsAnswer`.
+// The cells as a row under the sheet's last line, with the cells that hang from it; collapsing takes off the cells' first and last borders.
+// Number, length and every byte of the store are those of `columnsAnswer`.
 pub fn append_columns_with_borders(
     options: RenderOptions,
     sheet: &[u8],
@@ -36,15 +37,8 @@ pub fn append_columns_with_borders(
     if n != 0 {
         return refuse(n, store);
     }
-    let last = last_line(sheet, 5, sheet.len());
-    let mut joined = false;
-    if last < sheet.len() {
-        joined = sheet[last] == b'B';
-    }
-    if collapse && !joined {
-        if starts_border(cells) {
-            return refuse(6, store);
-        }
-    }
-    lay(options, sheet, cells, collapse, last, joined, store)
+    let from = first_hanging(sheet);
+    let last = last_line(sheet, 5, from);
+    let joined = ends_in_border(sheet, last, from);
+    lay(options, sheet, from, last, joined, cells, collapse, store)
 }

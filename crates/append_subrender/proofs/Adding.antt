@@ -1,38 +1,43 @@
 -- Laws of a line behind its prefix, laid piece by piece, and of the lines of a guest, added one after the other.
 -- Assumes nothing.
-use mathlib.Core.Path.{_≡_, refl, sym, ap, subst, _∙_}
-use mathlib.Core.Bool.{Bool, true, false}
+use mathlib.Core.Path.{_≡_, refl, sym, ap, ap₂, subst, _∙_}
+use mathlib.Core.Bool.{Bool, true, false, _&&_, _||_}
 use mathlib.Core.Option.{Option, none, some, Option·map, Option·some-injective}
 use mathlib.Core.List.{List, [], _∷_, _++_, map, append-nil, append-assoc}
-use Prim.Native.Nat.{ℕ, suc, _+_, _-_, _≤_, _<_}
+use Prim.Native.Nat.{ℕ, suc, _+_, _-_, _*_, _≤_, _<_}
 use native.Mathlib.Omega.{arith}
-use lib.Dec.{eqb}
+use lib.Dec.{leb, eqb}
 use lib.ListN.{length, take, drop, length-drop}
 use lib.Seq.{length-take-le}
 use borrow.Author.Tests.{ne-eqb}
 use Rattle.characters.specs.If.{if_then_else_}
-use Rattle.characters.proofs.Tests.{and-left, and-right}
+use Rattle.characters.proofs.Tests.{by-if, and-left, and-right, or-left, or-right}
 use Rattle.fields.specs.Field.{Raw, whole, broken, raws, readAll, all}
-use Rattle.fields.specs.Sheet.{Piece, str, fragment, RenderLine, text, border, readStr, readPiece, isSegment, readBorder, readLine, readableLine}
-use Rattle.fields.proofs.Texts.{rest}
+use Rattle.fields.specs.Sheet.{Piece, str, fragment, readStr, readPiece, isSegment}
 use Rattle.fields.proofs.Fields.{FieldIs}
 use Rattle.fields.proofs.Back.{Every, GoodPiece}
-use Rattle.borders.specs.BorderHoriz.{stretch-to, drawn, to-string}
-use Rattle.borders.proofs.Drawing.{drawn-string}
-use Rattle.rows.specs.TaggedLine.{push-str, addPieces}
-use Rattle.rows.specs.SubRenderer.{padded, withPrefix, later, prefixed}
+use Rattle.borders.specs.BorderHoriz.{stretch-to}
+use Rattle.fields.specs.TaggedLine.{push-str, addPieces}
+use Rattle.rows.specs.SubRenderer.{later, padded, isBorder}
 use Rattle.rows.specs.declared.RenderOptions.{RenderOptions}
 use Rattle.rows.proofs.Lines.{front-pieces}
+use Rattle.rows.proofs.Reading.{OnSome, some-of}
 use Rattle.fields.proofs.Readings.{read-first, read-none}
-use Rattle.tagged_line.specs.Held.{Within, LineGrown, Held, Pushes, Draws, newLine}
+use Rattle.fields.specs.Spans.{Hole, RenderLine, text, border, readHoles, rawHoles, endsWithin, holed, readHoled, readBorder, readLine, readableHole, readableLine}
+use Rattle.rows.specs.Columns.{overlaps, holedText}
+use Rattle.places.specs.Border.{BorderAt, FindsParts}
+use Rattle.places.specs.declared.border.Parts.{Parts}
+use Rattle.holes.specs.Drawing.{PushesHoled}
+use Rattle.tagged_line.specs.Held.{Within, LineGrown, Held, Pushes, newLine}
 use Rattle.tagged_line.specs.Pieces.{PiecesOf, AddsPieces}
 use Rattle.tagged_line.specs.declared.line.Line.{Line}
-use Rattle.add_line.specs.Emitted.{InBounds, OneLineMore, LineBegun, Emitted, AddsTextLine}
-use Rattle.add_line.specs.declared.lines.Lines.{Lines}
-use Rattle.add_line.proofs.Emitting.{held-new}
+use Rattle.extend_lines.specs.Emitted.{InBounds, OneLineMore, LineBegun, Emitted, AddsTextLine}
+use Rattle.extend_lines.specs.declared.lines.Lines.{Lines}
+use Rattle.extend_lines.proofs.Emitting.{held-new}
+use Rattle.append_subrender.specs.Misfit.{overlapping, guestMisfit, behindPrefix, behindPrefixes}
 use Rattle.append_subrender.specs.Prefixes.{Placed, current, Coming, Found, Steps, noPrefix, AddsPrefixed, AddsGuest}
 use Rattle.append_subrender.specs.declared.prefixed.Prefix.{Prefix}
-use Rattle.append_subrender.proofs.Pairing.{paired-on, paired-none, paired-out, all-come, none-placed}
+use Rattle.append_subrender.proofs.Pairing.{paired-on, paired-none, paired-out, misfit-on, all-come, none-placed}
 
 -- ---- numbers
 
@@ -121,57 +126,67 @@ text-pieces letter bytes g is read = go (readAll readPiece (raws bytes)) refl (r
 pub prefixed-text : (o₀ o₁ o₂ o₃ : List ℕ) (p r : Lines) (s : RenderOptions) (prefix : List ℕ) (cols letter : ℕ) (bytes : List ℕ) (new head line : Line)
     → new ≡ newLine (p .at) → letter ≡ 0x4C → length o₂ ≡ length o₀ → Pushes o₀ new (s .annotation) prefix cols o₁ head
     → AddsPieces o₁ head bytes true false o₂ line → AddsTextLine o₂ p line s o₃ r → AddsPrefixed o₀ p s prefix cols letter bytes o₃ r
-unfolding withPrefix
-prefixed-text o₀ o₁ o₂ o₃ p r s prefix cols letter bytes new head line is el size push add end g read ok formed wide st ls e =
+prefixed-text o₀ o₁ o₂ o₃ p r s prefix cols letter bytes new head line is el size push add end g read ok apart formed wide st ls e =
     let (ps, same, pieces, good) = text-pieces letter bytes g el read in
     let h₀ : Held o₀ [] o₀ new = rw is (held-new o₀ (p .at)) in
     let h₁ = push o₀ [] h₀ formed wide in
     let h₂ = add ps pieces (rw same at ok) o₀ (push-str [] (s .annotation) prefix) h₁ in
     rw (same, front-pieces ps (s .annotation) prefix good) (end st o₀ ls (addPieces true false (push-str [] (s .annotation) prefix) ps) e size h₂)
 
--- a border's bytes
-border-bytes : (letter : ℕ) (bytes : List ℕ) (g : RenderLine) → (letter ≡ 0x4C → ⊥) → readLine (whole letter bytes) ≡ some g
-    → (a : ℕ) × (segs : List ℕ) × (g ≡ border a segs) × (bytes ≡ a ∷ segs)
-unfolding readLine
-border-bytes letter bytes g other read = go (eqb letter 0x42) bytes (rw (ne-eqb letter 0x4C other) at read)
-  where
-    go : (t : Bool) (bs : List ℕ) → (if t then readBorder bs else none) ≡ some g → (a : ℕ) × (segs : List ℕ) × (g ≡ border a segs) × (bs ≡ a ∷ segs)
-    go false bs e = absurd (let z : _≡_ {A = ℕ} 0 1 = cc in omega arith)
-    go true [] e = absurd (let z : _≡_ {A = ℕ} 0 1 = cc in omega arith)
-    go true (a ∷ segs) e = known (all isSegment segs) e
-      where
-        known : (t : Bool) → (if t then some (border a segs) else none) ≡ some g → (b : ℕ) × (ks : List ℕ) × (g ≡ border b ks) × (a ∷ segs ≡ b ∷ ks)
-        known false e = absurd (let z : _≡_ {A = ℕ} 0 1 = cc in omega arith)
-        known true e = (a, segs, sym (Option·some-injective (border a segs) g e), refl)
+-- what is no L is a border
+holed-border : (a : ℕ) (segs : List ℕ) (q : Option (List Hole)) → OnSome (λ l. isBorder l ≡ true) (holed a segs q)
+holed-border a segs none = tt
+holed-border a segs (some []) = tt
+holed-border a segs (some (h ∷ hs)) =
+    by-if (OnSome (λ l. isBorder l ≡ true)) (all isSegment segs && all (endsWithin (length segs)) (h ∷ hs)) (λ _. refl) (λ _. tt)
 
--- the border's own characters
-own-text : (segs : List ℕ) → drawn false (stretch-to segs 0) ≡ to-string segs
+holes-border : (t : List ℕ) → OnSome (λ l. isBorder l ≡ true) (readHoled t)
+unfolding readHoled
+holes-border [] = tt
+holes-border (a ∷ []) = tt
+holes-border (a ∷ h ∷ []) = tt
+holes-border (a ∷ h ∷ o ∷ rest) =
+    let n = h * 256 + o in
+    by-if (OnSome (λ l. isBorder l ≡ true)) (leb n (length rest)) (λ _. holed-border a (take n rest) (readHoles (rawHoles (drop n rest)))) (λ _. tt)
+
+plain-border : (t : List ℕ) → OnSome (λ l. isBorder l ≡ true) (readBorder t)
+plain-border [] = tt
+plain-border (a ∷ segs) = by-if (OnSome (λ l. isBorder l ≡ true)) (all isSegment segs) (λ _. refl) (λ _. tt)
+
+is-border : (letter : ℕ) (bytes : List ℕ) (g : RenderLine) → (letter ≡ 0x4C → ⊥) → readLine (whole letter bytes) ≡ some g → isBorder g ≡ true
+unfolding readLine
+is-border letter bytes g other read =
+    let P = OnSome (λ l. isBorder l ≡ true) in
+    some-of (λ l. isBorder l ≡ true) _ g (rw (ne-eqb letter 0x4C other) at read)
+    (by-if P (eqb letter 0x42) (λ _. plain-border bytes) (λ _. by-if P (eqb letter 0x47) (λ _. holes-border bytes) (λ _. tt)))
+
+pub not-text : (letter : ℕ) (bytes : List ℕ) (ps : List Piece) → (letter ≡ 0x4C → ⊥) → readLine (whole letter bytes) ≡ some (text ps) → ⊥
+not-text letter bytes ps other read =
+    let no : false ≡ true = is-border letter bytes (text ps) other read in
+    let z : _≡_ {A = ℕ} 0 1 = cc in
+    omega arith
+
+-- stretched to no width it is itself
+own-segments : (segs : List ℕ) → stretch-to segs 0 ≡ segs
 unfolding stretch-to
-own-text segs =
+own-segments segs =
     let n : 0 - length segs ≡ 0 = omega arith in
-    rw (n, append-nil segs) (drawn-string segs)
+    rw (n, append-nil segs)
 
 -- A border: its drawing pushed onto the prefix, with the sheet's annotation.
-pub prefixed-border : (o₀ o₁ o₂ o₃ : List ℕ) (p r : Lines) (s : RenderOptions) (prefix : List ℕ) (cols letter : ℕ) (bytes : List ℕ) (new head line : Line)
-    → new ≡ newLine (p .at) → (letter ≡ 0x4C → ⊥) → length o₂ ≡ length o₀ → Pushes o₀ new (s .annotation) prefix cols o₁ head
-    → Draws o₁ head (s .annotation) (take (length bytes - 1) (drop 1 bytes)) 0 false o₂ line → AddsTextLine o₂ p line s o₃ r
+pub prefixed-border : (o₀ o₁ o₂ o₃ : List ℕ) (p r : Lines) (s : RenderOptions) (prefix : List ℕ) (cols letter : ℕ) (bytes : List ℕ) (new head line : Line) (parts : Parts)
+    → new ≡ newLine (p .at) → (letter ≡ 0x4C → ⊥) → length o₂ ≡ length o₀ → Pushes o₀ new (s .annotation) prefix cols o₁ head → FindsParts letter bytes parts
+    → PushesHoled o₁ head (s .annotation) bytes (parts .segs) (parts .holes) 0 o₂ line → AddsTextLine o₂ p line s o₃ r
     → AddsPrefixed o₀ p s prefix cols letter bytes o₃ r
-unfolding withPrefix
-prefixed-border o₀ o₁ o₂ o₃ p r s prefix cols letter bytes new head line is other size push draw end g read ok formed wide st ls e =
-    let (a, segs, same, bs) = border-bytes letter bytes g other read in
-    let part : take (length bytes - 1) (drop 1 bytes) ≡ segs = rest bytes 1 ∙ ap (drop 1) bs in
+prefixed-border o₀ o₁ o₂ o₃ p r s prefix cols letter bytes new head line parts is other size push finds draw end (text ps) read ok apart formed wide st ls e =
+    absurd (not-text letter bytes ps other read)
+prefixed-border o₀ o₁ o₂ o₃ p r s prefix cols letter bytes new head line parts is other size push finds draw end (border a segs hs) read ok apart formed wide st ls e =
     let h₀ : Held o₀ [] o₀ new = rw is (held-new o₀ (p .at)) in
     let h₁ = push o₀ [] h₀ formed wide in
     let l = push-str [] (s .annotation) prefix in
-    let h₂ : Held o₀ (push-str l (s .annotation) (to-string segs)) o₂ line = rw (part, own-text segs) at (draw o₀ l h₁) in
-    rw same (end st o₀ ls (push-str l (s .annotation) (to-string segs)) e size h₂)
-
--- What has no annotation is no border.
-pub prefixed-none : (o₀ o₃ : List ℕ) (p r : Lines) (s : RenderOptions) (prefix : List ℕ) (cols letter : ℕ) (bytes : List ℕ) → (letter ≡ 0x4C → ⊥)
-    → length bytes < 1 → AddsPrefixed o₀ p s prefix cols letter bytes o₃ r
-prefixed-none o₀ o₃ p r s prefix cols letter bytes other few g read ok formed wide st ls e =
-    let (a, segs, same, bs) = border-bytes letter bytes g other read in
-    absurd (omega (arith, ap length bs))
+    let h₂ : Held o₀ (push-str l (s .annotation) (holedText segs 0 hs)) o₂ line =
+    rw (own-segments segs) at (draw a segs hs (finds a segs hs read) ok (rw (own-segments segs) apart) o₀ l h₁) in
+    end st o₀ ls (push-str l (s .annotation) (holedText segs 0 hs)) e size h₂
 
 -- ---- the lines of a guest
 
@@ -179,7 +194,8 @@ prefixed-none o₀ o₃ p r s prefix cols letter bytes other few g read ok forme
 abbrev pub AddsPairs : List ℕ → Lines → RenderOptions → List ℕ → List ℕ → Bool → Prefix → List ℕ → Lines → Type 0
 AddsPairs out p s guest prefixes rep prefix out′ r =
     (gs : List RenderLine) (ps : List (List ℕ)) → readAll readLine (raws guest) ≡ some gs → all readableLine gs ≡ true → Coming prefixes rep prefix ps
-    → (st : List ℕ) (ls : List RenderLine) → Emitted st ls out p → Emitted st (ls ++ map (padded s) (prefixed s rep gs ps)) out′ r
+    → guestMisfit rep gs ps ≡ false
+    → (st : List ℕ) (ls : List RenderLine) → Emitted st ls [] out p → Emitted st (ls ++ map (padded s) (behindPrefixes s rep gs ps)) [] out′ r
 
 -- a rest that is no field reads as no lines
 pub no-lines-read : (gs : List RenderLine) → readAll readLine (broken ∷ []) ≡ some gs → ⊥
@@ -189,35 +205,37 @@ no-lines-read gs e = let x = read-first readLine broken [] gs e .first in let z 
 module _ (out : List ℕ) (p : Lines) (s : RenderOptions) (guest prefixes : List ℕ) (rep : Bool) (prefix : Prefix) where
   -- No prefix is left.
   pub pairs-out : (q : Prefix) → Steps prefixes rep prefix q → q .found ≡ false → AddsPairs out p s guest prefixes rep prefix out p
-  pairs-out q steps lost gs ps read ok c st ls e =
+  pairs-out q steps lost gs ps read ok c apart st ls e =
       let none-left : ps ≡ [] = subst (λ (b : Bool). Found b prefixes rep q ps) lost (steps ps c) in
       rw (none-left, paired-out s rep gs, append-nil ls) e
 
   -- No line is left.
   pub pairs-none : raws guest ≡ [] → AddsPairs out p s guest prefixes rep prefix out p
-  pairs-none is gs ps read ok c st ls e =
+  pairs-none is gs ps read ok c apart st ls e =
       let none-left = read-none readLine gs (sym (ap (readAll readLine) is) ∙ read) in
       rw (none-left, paired-none s rep ps, append-nil ls) e
 
   -- A rest that is no field.
   pub pairs-broken : raws guest ≡ broken ∷ [] → AddsPairs out p s guest prefixes rep prefix out p
-  pairs-broken is gs ps read ok c st ls e = absurd (no-lines-read gs (sym (ap (readAll readLine) is) ∙ read))
+  pairs-broken is gs ps read ok c apart st ls e = absurd (no-lines-read gs (sym (ap (readAll readLine) is) ∙ read))
 
   -- One pair, and those after it.
   pub pairs-on : (mid out′ : List ℕ) (m r : Lines) (q : Prefix) (letter : ℕ) (bytes left : List ℕ) → Steps prefixes rep prefix q → q .found ≡ true
       → raws guest ≡ whole letter bytes ∷ raws left → AddsPrefixed out p s (current prefixes q) (q .cols) letter bytes mid m
       → AddsPairs mid m s left prefixes rep q out′ r → AddsPairs out p s guest prefixes rep prefix out′ r
   unfolding all
-  pairs-on mid out′ m r q letter bytes left steps found is one others gs ps read ok c st ls e =
+  pairs-on mid out′ m r q letter bytes left steps found is one others gs ps read ok c apart st ls e =
       let (qs, next, coming) : Found true prefixes rep q ps = subst (λ (b : Bool). Found b prefixes rep q ps) found (steps ps c) in
       let (formed, wide) = coming .text found in
       let x = read-first readLine (whole letter bytes) (raws left) gs (sym (ap (readAll readLine) is) ∙ read) in
       let good : all readableLine (x .one ∷ x .more) ≡ true = sym (ap (all readableLine) (x .are)) ∙ ok in
       let t = current prefixes q in
-      let new = padded s (withPrefix s t (x .one)) in
-      let e₁ = one (x .one) (x .first) (and-left (readableLine (x .one)) (all readableLine (x .more)) good) formed wide st ls e in
-      let e₂ = others (x .more) (later rep t qs) (x .later) (and-right (readableLine (x .one)) (all readableLine (x .more)) good) coming st (ls ++ (new ∷ [])) e₁ in
-      rw (x .are, next, paired-on s rep (x .one) (x .more) t qs, ← append-assoc ls (new ∷ []) (map (padded s) (prefixed s rep (x .more) (later rep t qs)))) e₂
+      let left-over = guestMisfit rep (x .more) (later rep t qs) in
+      let fit : (overlapping (x .one) || left-over) ≡ false = sym (misfit-on rep (x .one) (x .more) t qs) ∙ sym (ap₂ (guestMisfit rep) (x .are) next) ∙ apart in
+      let new = padded s (behindPrefix s t (x .one)) in
+      let e₁ = one (x .one) (x .first) (and-left (readableLine (x .one)) (all readableLine (x .more)) good) (or-left (overlapping (x .one)) left-over fit) formed wide st ls e in
+      let e₂ = others (x .more) (later rep t qs) (x .later) (and-right (readableLine (x .one)) (all readableLine (x .more)) good) coming (or-right (overlapping (x .one)) left-over fit) st (ls ++ (new ∷ [])) e₁ in
+      rw (x .are, next, paired-on s rep (x .one) (x .more) t qs, ← append-assoc ls (new ∷ []) (map (padded s) (behindPrefixes s rep (x .more) (later rep t qs)))) e₂
 
 -- Up to a place of the guest the pairs are added, and those from it on are left.
 pub record Walk (out₀ : List ℕ) (p : Lines) (s : RenderOptions) (guest prefixes : List ℕ) (rep : Bool) (out : List ℕ) (q : Lines) (prefix : Prefix) (at : ℕ) : Type 0 where
@@ -236,7 +254,7 @@ walk-start out p s guest prefixes rep h =
       bounds = h;
       placed = none-placed prefixes;
       count = refl;
-      lines = λ out′ r pairs gs ps read ok reads readable. pairs gs ps read ok (all-come prefixes rep ps reads readable);
+      lines = λ out′ r pairs gs ps read ok reads readable apart. pairs gs ps read ok (all-come prefixes rep ps reads readable) apart;
     }
 
 module _ (out₀ : List ℕ) (p : Lines) (s : RenderOptions) (guest prefixes : List ℕ) (rep : Bool) (out : List ℕ) (q : Lines) (prefix : Prefix) (at : ℕ)

@@ -1,4 +1,6 @@
 pub mod Pairing
+pub mod Refusing
 pub mod Adding
 pub mod Stacking
+pub mod Telling
 pub mod Calling

@@ -1,60 +1,185 @@
 -- Laws of lines and prefixes in pairs, of cells below each other, and of prefixes that come one after the other, the last perhaps again and again.
+-- Refusal 10 of the two calls is a test, and where it fails their lines are a list.
 -- Assumes nothing.
 use mathlib.Core.Path.{_≡_, refl, sym, ap, _∙_}
-use mathlib.Core.Bool.{Bool, true, false}
-use mathlib.Core.Option.{none, some}
+use mathlib.Core.Bool.{Bool, true, false, not, _||_}
+use mathlib.Core.Option.{Option, none, some, Option·map}
 use mathlib.Core.List.{List, [], _∷_, _++_, map, map-append, append-assoc, append-nil}
-use Prim.Native.Nat.{ℕ, _+_, _-_, _*_, _≤_, _<_}
+use Prim.Native.Nat.{ℕ, zero, suc, _+_, _-_, _*_, _≤_, _<_}
 use native.Mathlib.Omega.{arith}
 use lib.Dec.{eqb}
 use lib.ListN.{length, take, drop}
 use Rattle.characters.specs.If.{if_then_else_}
 use Rattle.characters.proofs.Tests.{and-left, and-right}
-use Rattle.fields.specs.Field.{whole, broken, raws, readAll, all}
+use Rattle.fields.specs.Field.{whole, broken, raws, readAll, all, part}
 use Rattle.fields.specs.Text.{readableText}
-use Rattle.fields.specs.Sheet.{RenderLine, border, Cell, readPrefix}
-use Rattle.fields.specs.Widths.{text-width}
+use Rattle.fields.specs.Sheet.{readPrefix}
+use Rattle.fields.specs.Widths.{piece-width, text-width}
 use Rattle.fields.proofs.Fields.{FieldIs}
 use Rattle.borders.specs.BorderSegHoriz.{Horiz}
-use Rattle.borders.specs.BorderHoriz.{new-type}
-use Rattle.rows.specs.SubRenderer.{padded, extend-lines, withPrefix, later, prefixed, append-subrender, ifDrawn, between, appendEach, append-vert-row}
+use Rattle.borders.specs.BorderHoriz.{new-type, to-string, _>>=_, as-str, sliceable, to-string-from, holed-to-string}
+use Rattle.fields.specs.TaggedLine.{push-str}
+use Rattle.rows.specs.SubRenderer.{later, padded, add-line, extend-lines, plainBorder, withPrefix, prefixed, append-subrender, ifDrawn, between, appendEach, append-vert-row}
 use Rattle.rows.specs.declared.RenderOptions.{RenderOptions}
-use Rattle.rows.proofs.Lines.{extend-map, readable-formed}
+use Rattle.rows.proofs.Lines.{readable-formed}
+use Rattle.fields.specs.Spans.{Hole, RenderLine, text, border, Cell}
+use Rattle.rows.specs.Columns.{noneIf, overlaps, holedText}
 use Rattle.fields.proofs.Readings.{read-first, read-none}
 use Rattle.tagged_line.proofs.Laying.{content-size}
-use Rattle.append_subrender.specs.Prefixes.{Placed, current, coming, Coming, Steps, again, noPrefix, cellLines}
+use Rattle.append_subrender.specs.Misfit.{overlapping, anyOverlapping, guestMisfit, cellsMisfit, behindPrefix, behindPrefixes, cellLines}
+use Rattle.append_subrender.specs.Prefixes.{Placed, current, coming, Coming, Steps, again, noPrefix}
 use Rattle.append_subrender.specs.declared.prefixed.Prefix.{Prefix}
 
 -- ---- lines and prefixes in pairs
 
 -- one pair
 pub paired-on : (s : RenderOptions) (rep : Bool) (g : RenderLine) (gs : List RenderLine) (p : List ℕ) (ps : List (List ℕ))
-    → prefixed s rep (g ∷ gs) (p ∷ ps) ≡ withPrefix s p g ∷ prefixed s rep gs (later rep p ps)
-unfolding prefixed
+    → behindPrefixes s rep (g ∷ gs) (p ∷ ps) ≡ behindPrefix s p g ∷ behindPrefixes s rep gs (later rep p ps)
+unfolding behindPrefixes
 paired-on s rep g gs p ps = refl
 
 -- no line is left
-pub paired-none : (s : RenderOptions) (rep : Bool) (ps : List (List ℕ)) → prefixed s rep [] ps ≡ []
-unfolding prefixed
+pub paired-none : (s : RenderOptions) (rep : Bool) (ps : List (List ℕ)) → behindPrefixes s rep [] ps ≡ []
+unfolding behindPrefixes
 paired-none s rep ps = refl
 
 -- no prefix is left
-pub paired-out : (s : RenderOptions) (rep : Bool) (gs : List RenderLine) → prefixed s rep gs [] ≡ []
-unfolding prefixed
+pub paired-out : (s : RenderOptions) (rep : Bool) (gs : List RenderLine) → behindPrefixes s rep gs [] ≡ []
+unfolding behindPrefixes
 paired-out s rep [] = refl
 paired-out s rep (g ∷ gs) = refl
 
--- `append_subrender`: the pairs after the old lines.
+-- the test of one pair
+pub misfit-on : (rep : Bool) (g : RenderLine) (gs : List RenderLine) (p : List ℕ) (ps : List (List ℕ))
+    → guestMisfit rep (g ∷ gs) (p ∷ ps) ≡ (overlapping g || guestMisfit rep gs (later rep p ps))
+unfolding guestMisfit
+misfit-on rep g gs p ps = refl
+
+misfit-out : (rep : Bool) (gs : List RenderLine) → guestMisfit rep gs [] ≡ false
+unfolding guestMisfit
+misfit-out rep [] = refl
+misfit-out rep (g ∷ gs) = refl
+
+-- ---- what may panic, as a test and a value
+
+map-noneIf : {A B : Type 0} (f : A → B) (b : Bool) (a : A) → Option·map f (noneIf b a) ≡ noneIf b (f a)
+map-noneIf f true a = refl
+map-noneIf f false a = refl
+
+bind-noneIf : {A B : Type 0} (f : A → B) (b : Bool) (a : A) → (noneIf b a >>= λ x. some (f x)) ≡ noneIf b (f a)
+bind-noneIf f true a = refl
+bind-noneIf f false a = refl
+
+bind-both : {A B : Type 0} (b c : Bool) (a : A) (f : A → Option B) (d : B) → f a ≡ noneIf c d → (noneIf b a >>= f) ≡ noneIf (b || c) d
+bind-both true c a f d e = refl
+bind-both false c a f d e = e
+
+string-split : (segs : List ℕ) (pos : ℕ) (hs : List Hole) → to-string-from segs pos hs ≡ noneIf (overlaps segs pos hs) (holedText segs pos hs)
+unfolding to-string-from overlaps holedText
+string-split segs pos [] = refl
+string-split segs pos (h ∷ hs) =
+    let q = h .place + piece-width (h .piece) in
+    let f : List ℕ → List ℕ = λ t. to-string (part pos (h .place) segs) ++ (as-str (h .piece) ++ t) in
+    go (sliceable pos (h .place) segs) f (to-string-from segs q hs) (overlaps segs q hs) (holedText segs q hs) (string-split segs q hs)
+  where
+    go : (b : Bool) (f : List ℕ → List ℕ) (r : Option (List ℕ)) (o : Bool) (t : List ℕ) → r ≡ noneIf o t
+        → (if b then Option·map f r else none) ≡ noneIf (not b || o) (f t)
+    go true f r o t e = ap (Option·map f) e ∙ map-noneIf f o t
+    go false f r o t e = refl
+
+-- one line behind its prefix
+one-split : (s : RenderOptions) (p : List ℕ) (g : RenderLine) → withPrefix s p g ≡ noneIf (overlapping g) (behindPrefix s p g)
+unfolding withPrefix holed-to-string
+one-split s p (text ps) = refl
+one-split s p (border a segs hs) =
+    let f : List ℕ → RenderLine = λ t. text (push-str (push-str [] (s .annotation) p) (s .annotation) t) in
+    ap (λ (o : Option (List ℕ)). o >>= λ t. some (f t)) (string-split segs 0 hs) ∙ bind-noneIf f (overlaps segs 0 hs) (holedText segs 0 hs)
+
+-- all pairs
+pairs-split : (s : RenderOptions) (rep : Bool) (gs : List RenderLine) (ps : List (List ℕ))
+    → prefixed s rep gs ps ≡ noneIf (guestMisfit rep gs ps) (behindPrefixes s rep gs ps)
+unfolding prefixed guestMisfit behindPrefixes
+pairs-split s rep [] ps = refl
+pairs-split s rep (g ∷ gs) [] = refl
+pairs-split s rep (g ∷ gs) (p ∷ ps) =
+    let l = behindPrefix s p g in
+    let next = prefixed s rep gs (later rep p ps) in
+    let f : RenderLine → Option (List RenderLine) = λ x. Option·map (λ (ls : List RenderLine). x ∷ ls) next in
+    ap (λ (o : Option RenderLine). o >>= f) (one-split s p g)
+    ∙ bind-both (overlapping g) (guestMisfit rep gs (later rep p ps)) l f (l ∷ behindPrefixes s rep gs (later rep p ps))
+    (ap (Option·map (λ (ls : List RenderLine). l ∷ ls)) (pairs-split s rep gs (later rep p ps))
+    ∙ map-noneIf (λ (ls : List RenderLine). l ∷ ls) (guestMisfit rep gs (later rep p ps)) (behindPrefixes s rep gs (later rep p ps)))
+
+extend-map : (s : RenderOptions) (ls new : List RenderLine) → extend-lines s ls new ≡ ls ++ map (padded s) new
+unfolding extend-lines add-line
+extend-map s ls [] = sym (append-nil ls)
+extend-map s ls (n ∷ new) = extend-map s (ls ++ (padded s n ∷ [])) new ∙ append-assoc ls (padded s n ∷ []) (map (padded s) new)
+
+-- `append_subrender`: REFUSAL 10 IS THE TEST, AND ELSE THE PAIRS STAND AFTER THE OLD LINES.
 pub subrender-lines : (s : RenderOptions) (old guest : List RenderLine) (rep : Bool) (ps : List (List ℕ))
-    → append-subrender s old guest rep ps ≡ old ++ map (padded s) (prefixed s rep guest ps)
+    → append-subrender s old guest rep ps ≡ noneIf (guestMisfit rep guest ps) (old ++ map (padded s) (behindPrefixes s rep guest ps))
 unfolding append-subrender
-subrender-lines s old guest rep ps = extend-map s old (prefixed s rep guest ps)
+subrender-lines s old guest rep ps =
+    ap (Option·map (extend-lines s old)) (pairs-split s rep guest ps)
+    ∙ map-noneIf (extend-lines s old) (guestMisfit rep guest ps) (behindPrefixes s rep guest ps)
+    ∙ ap (noneIf (guestMisfit rep guest ps)) (extend-map s old (behindPrefixes s rep guest ps))
+
+-- ---- the lines that have a prefix, by their number
+
+-- where a last prefix repeats it is all of them
+misfit-all : (gs : List RenderLine) (p : List ℕ) (ps : List (List ℕ)) → guestMisfit true gs (p ∷ ps) ≡ anyOverlapping gs
+unfolding guestMisfit anyOverlapping
+misfit-all [] p ps = refl
+misfit-all (g ∷ gs) p [] = ap (λ (b : Bool). overlapping g || b) (misfit-all gs p [])
+misfit-all (g ∷ gs) p (q ∷ ps) = ap (λ (b : Bool). overlapping g || b) (misfit-all gs q ps)
+
+later-not : (p : List ℕ) (ps : List (List ℕ)) → later false p ps ≡ ps
+later-not p [] = refl
+later-not p (q ∷ ps) = refl
+
+take-none : (gs : List RenderLine) → anyOverlapping (take 0 gs) ≡ false
+unfolding anyOverlapping
+take-none gs = refl
+
+-- where it does not it is as many as there are prefixes
+misfit-first : (gs : List RenderLine) (ps : List (List ℕ)) → guestMisfit false gs ps ≡ anyOverlapping (take (length ps) gs)
+unfolding guestMisfit anyOverlapping
+misfit-first [] [] = refl
+misfit-first (g ∷ gs) [] = refl
+misfit-first [] (p ∷ ps) = refl
+misfit-first (g ∷ gs) (p ∷ ps) =
+    ap (λ (b : Bool). overlapping g || b) (ap (guestMisfit false gs) (later-not p ps) ∙ misfit-first gs ps)
+
+take-more : (n : ℕ) (gs : List RenderLine) → length gs ≤ n → take n gs ≡ gs
+take-more zero [] h = refl
+take-more zero (g ∷ gs) h = absurd (omega arith)
+take-more (suc n) [] h = refl
+take-more (suc n) (g ∷ gs) h = ap (λ (l : List RenderLine). g ∷ l) (take-more n gs (omega arith))
+
+-- The three cases of the code.
+pub guest-none : (rep : Bool) (gs : List RenderLine) (ps : List (List ℕ)) → length ps ≡ 0 → false ≡ guestMisfit rep gs ps
+guest-none rep gs [] e = sym (misfit-out rep gs)
+guest-none rep gs (p ∷ ps) e = absurd (omega arith)
+
+pub guest-all : (rep : Bool) (gs : List RenderLine) (ps : List (List ℕ)) (n : ℕ) → rep ≡ true → (length ps ≡ 0 → ⊥) → length gs ≤ n
+    → anyOverlapping (take n gs) ≡ guestMisfit rep gs ps
+guest-all rep gs [] n e h k = absurd (h refl)
+guest-all rep gs (p ∷ ps) n e h k = ap anyOverlapping (take-more n gs k) ∙ sym (misfit-all gs p ps) ∙ ap (λ (b : Bool). guestMisfit b gs (p ∷ ps)) (sym e)
+
+pub guest-first : (rep : Bool) (gs : List RenderLine) (ps : List (List ℕ)) (n : ℕ) → rep ≡ false → n ≡ length ps
+    → anyOverlapping (take n gs) ≡ guestMisfit rep gs ps
+guest-first rep gs ps n e k =
+    ap (λ (m : ℕ). anyOverlapping (take m gs)) k ∙ sym (misfit-first gs ps) ∙ ap (λ (b : Bool). guestMisfit b gs ps) (sym e)
+
+-- All lines of a cell.
+pub cell-whole : (gs : List RenderLine) (n : ℕ) → length gs ≤ n → anyOverlapping (take n gs) ≡ anyOverlapping gs
+cell-whole gs n k = ap anyOverlapping (take-more n gs k)
 
 -- ---- cells below each other
 
 -- one cell
 pub cells-on : (s : RenderOptions) (first : Bool) (c : Cell) (cs : List Cell)
-    → cellLines s first (c ∷ cs) ≡ between s first ++ (prefixed s true (c .lines) ([] ∷ []) ++ cellLines s false cs)
+    → cellLines s first (c ∷ cs) ≡ between s first ++ (behindPrefixes s true (c .lines) ([] ∷ []) ++ cellLines s false cs)
 unfolding cellLines
 cells-on s first c cs = refl
 
@@ -63,6 +188,15 @@ pub cells-none : (s : RenderOptions) (first : Bool) → cellLines s first [] ≡
 unfolding cellLines
 cells-none s first = refl
 
+-- the test of one cell
+pub cells-misfit-on : (c : Cell) (cs : List Cell) → cellsMisfit (c ∷ cs) ≡ (anyOverlapping (c .lines) || cellsMisfit cs)
+unfolding cellsMisfit
+cells-misfit-on c cs = refl
+
+pub cells-misfit-none : cellsMisfit [] ≡ false
+unfolding cellsMisfit
+cells-misfit-none = refl
+
 -- three lists after the old lines
 pub three-lists : (s : RenderOptions) (old a b c : List RenderLine)
     → ((old ++ map (padded s) a) ++ map (padded s) b) ++ map (padded s) c ≡ old ++ map (padded s) (a ++ (b ++ c))
@@ -70,26 +204,36 @@ three-lists s old a b c =
     let f = map (padded s) in
     rw (map-append (padded s) a (b ++ c), map-append (padded s) b c, append-assoc (old ++ f a) (f b) (f c), append-assoc old (f a) (f b ++ f c))
 
-each-lines : (s : RenderOptions) (first : Bool) (old : List RenderLine) (cs : List Cell) → appendEach s first old cs ≡ old ++ map (padded s) (cellLines s first cs)
-unfolding appendEach cellLines
-each-lines s first old [] = sym (append-nil old)
+each-lines : (s : RenderOptions) (first : Bool) (old : List RenderLine) (cs : List Cell)
+    → appendEach s first old cs ≡ noneIf (cellsMisfit cs) (old ++ map (padded s) (cellLines s first cs))
+unfolding appendEach cellLines cellsMisfit
+each-lines s first old [] = ap some (sym (append-nil old))
 each-lines s first old (c ∷ cs) =
     let mid = extend-lines s old (between s first) in
-    let next = append-subrender s mid (c .lines) true ([] ∷ []) in
-    let new = prefixed s true (c .lines) ([] ∷ []) in
-    each-lines s false next cs
-    ∙ ap (λ (x : List RenderLine). x ++ map (padded s) (cellLines s false cs))
-    (subrender-lines s mid (c .lines) true ([] ∷ []) ∙ ap (λ (x : List RenderLine). x ++ map (padded s) new) (extend-map s old (between s first)))
-    ∙ three-lists s old (between s first) new (cellLines s false cs)
+    let new = behindPrefixes s true (c .lines) ([] ∷ []) in
+    let next = mid ++ map (padded s) new in
+    let f : List RenderLine → Option (List RenderLine) = λ ls. appendEach s false ls cs in
+    let one : append-subrender s mid (c .lines) true ([] ∷ []) ≡ noneIf (anyOverlapping (c .lines)) next =
+    subrender-lines s mid (c .lines) true ([] ∷ []) ∙ ap (λ (b : Bool). noneIf b next) (misfit-all (c .lines) [] []) in
+    ap (λ (o : Option (List RenderLine)). o >>= f) one
+    ∙ bind-both (anyOverlapping (c .lines)) (cellsMisfit cs) next f (old ++ map (padded s) (between s first ++ (new ++ cellLines s false cs)))
+    (each-lines s false next cs
+    ∙ ap (noneIf (cellsMisfit cs))
+    (ap (λ (x : List RenderLine). (x ++ map (padded s) new) ++ map (padded s) (cellLines s false cs)) (extend-map s old (between s first))
+    ∙ three-lists s old (between s first) new (cellLines s false cs)))
 
--- `append_vert_row`: the cells' lines and the last border after the old lines.
+-- `append_vert_row`: REFUSAL 10 IS THE TEST, AND ELSE THE CELLS' LINES AND THE LAST BORDER STAND AFTER THE OLD LINES.
 pub vert-row-lines : (s : RenderOptions) (old : List RenderLine) (cs : List Cell)
-    → append-vert-row s old cs ≡ (old ++ map (padded s) (cellLines s true cs)) ++ map (padded s) (ifDrawn s (border (s .annotation) (new-type (s .width) Horiz)))
+    → append-vert-row s old cs
+    ≡ noneIf (cellsMisfit cs) ((old ++ map (padded s) (cellLines s true cs)) ++ map (padded s) (ifDrawn s (plainBorder (s .annotation) (new-type (s .width) Horiz))))
 unfolding append-vert-row
 vert-row-lines s old cs =
-    let last = ifDrawn s (border (s .annotation) (new-type (s .width) Horiz)) in
-    extend-map s (appendEach s true old cs) last
-    ∙ ap (λ (x : List RenderLine). x ++ map (padded s) last) (each-lines s true old cs)
+    let last = ifDrawn s (plainBorder (s .annotation) (new-type (s .width) Horiz)) in
+    let f : List RenderLine → List RenderLine = λ ls. extend-lines s ls last in
+    let mid = old ++ map (padded s) (cellLines s true cs) in
+    ap (λ (o : Option (List RenderLine)). o >>= λ ls. some (f ls)) (each-lines s true old cs)
+    ∙ bind-noneIf f (cellsMisfit cs) mid
+    ∙ ap (noneIf (cellsMisfit cs)) (extend-map s mid last)
 
 -- ---- prefixes
 

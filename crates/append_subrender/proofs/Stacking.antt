@@ -1,7 +1,7 @@
 -- Laws of cells below each other: a border of one segment, the lines of one cell, and the cells one after the other.
 -- Assumes nothing.
 use mathlib.Core.Path.{_≡_, refl, sym, ap, _∙_}
-use mathlib.Core.Bool.{Bool, true, false}
+use mathlib.Core.Bool.{Bool, true, false, _||_}
 use mathlib.Core.Option.{Option, none, some, Option·map, Option·some-injective}
 use mathlib.Core.List.{List, [], _∷_, _++_, map, append-nil, append-assoc}
 use Prim.Native.Nat.{ℕ, suc, _+_, _-_, _*_, _≤_, _<_}
@@ -10,21 +10,22 @@ use lib.Dec.{eqb}
 use lib.ListN.{length, take, drop, getD, length-drop, length-replicate}
 use lib.Seq.{length-take-le, drop-cons}
 use Rattle.characters.specs.If.{if_then_else_}
-use Rattle.characters.proofs.Tests.{and-left, and-right}
+use Rattle.characters.proofs.Tests.{and-left, and-right, or-left, or-right}
 use Rattle.fields.specs.Field.{whole, broken, raws, readAll, all}
-use Rattle.fields.specs.Sheet.{RenderLine, Cell, cell, readLine, readCellContent, readCell, readableLine, readableLines, readableCell}
 use Rattle.fields.proofs.Fields.{FieldIs}
 use Rattle.borders.specs.BorderSegHoriz.{HorizVert}
 use Rattle.borders.specs.BorderHoriz.{new-type}
 use Rattle.borders.specs.Buffer.{HoldsBorder}
-use Rattle.rows.specs.SubRenderer.{padded, withPrefix, prefixed, between}
+use Rattle.fields.specs.Spans.{RenderLine, Cell, cell, readLine, readCellContent, readPlainCell, readableLine, readableLines, readableCell}
+use Rattle.rows.specs.SubRenderer.{padded, between}
 use Rattle.rows.specs.declared.RenderOptions.{RenderOptions}
 use Rattle.rows.proofs.Lines.{text-width-nil, well-formed-nil}
 use Rattle.fields.proofs.Readings.{read-first, read-none}
-use Rattle.add_line.specs.Emitted.{InBounds, OneLineMore, Emitted, AddsBorder}
-use Rattle.add_line.specs.declared.lines.Lines.{Lines}
-use Rattle.append_subrender.specs.Prefixes.{AddsPrefixed, AddsRule, ruleIf, AddsRuleIf, AddsCell, cellLines, AddsCells}
-use Rattle.append_subrender.proofs.Pairing.{paired-on, paired-none, cells-on, cells-none, three-lists}
+use Rattle.extend_lines.specs.Emitted.{InBounds, OneLineMore, Emitted, AddsBorder}
+use Rattle.extend_lines.specs.declared.lines.Lines.{Lines}
+use Rattle.append_subrender.specs.Misfit.{overlapping, anyOverlapping, cellsMisfit, behindPrefix, behindPrefixes, cellLines}
+use Rattle.append_subrender.specs.Prefixes.{AddsPrefixed, AddsRule, ruleIf, AddsRuleIf, AddsCell, AddsCells}
+use Rattle.append_subrender.proofs.Pairing.{paired-on, paired-none, cells-on, cells-none, cells-misfit-on, three-lists}
 use Rattle.append_subrender.proofs.Adding.{next-bounds, no-lines-read}
 
 -- ---- a border of one segment
@@ -62,26 +63,27 @@ none-few s n = omega (arith, ap length (none-between n (drop n s)))
 module _ (out : List ℕ) (p : Lines) (s : RenderOptions) (body : List ℕ) where
   -- No line is left.
   cell-none : raws body ≡ [] → AddsCell out p s body out p
-  cell-none is gs read ok st ls e =
+  cell-none is gs read ok apart st ls e =
       let none-left = read-none readLine gs (sym (ap (readAll readLine) is) ∙ read) in
       rw (none-left, paired-none s true ([] ∷ []), append-nil ls) e
 
   -- A rest that is no field.
   cell-broken : raws body ≡ broken ∷ [] → AddsCell out p s body out p
-  cell-broken is gs read ok st ls e = absurd (no-lines-read gs (sym (ap (readAll readLine) is) ∙ read))
+  cell-broken is gs read ok apart st ls e = absurd (no-lines-read gs (sym (ap (readAll readLine) is) ∙ read))
 
   -- One line, and those after it: the empty prefix stays.
   cell-on : (mid out′ : List ℕ) (m r : Lines) (prefix : List ℕ) (letter : ℕ) (bytes left : List ℕ) → prefix ≡ [] → raws body ≡ whole letter bytes ∷ raws left
       → AddsPrefixed out p s prefix 0 letter bytes mid m → AddsCell mid m s left out′ r → AddsCell out p s body out′ r
-  unfolding all
-  cell-on mid out′ m r prefix letter bytes left empty is one others gs read ok st ls e =
+  unfolding all anyOverlapping
+  cell-on mid out′ m r prefix letter bytes left empty is one others gs read ok apart st ls e =
       let x = read-first readLine (whole letter bytes) (raws left) gs (sym (ap (readAll readLine) is) ∙ read) in
       let good : all readableLine (x .one ∷ x .more) ≡ true = sym (ap (all readableLine) (x .are)) ∙ ok in
       let line : AddsPrefixed out p s [] 0 letter bytes mid m = rw empty at one in
-      let new = padded s (withPrefix s [] (x .one)) in
-      let e₁ = line (x .one) (x .first) (and-left (readableLine (x .one)) (all readableLine (x .more)) good) well-formed-nil text-width-nil st ls e in
-      let e₂ = others (x .more) (x .later) (and-right (readableLine (x .one)) (all readableLine (x .more)) good) st (ls ++ (new ∷ [])) e₁ in
-      rw (x .are, paired-on s true (x .one) (x .more) [] [], ← append-assoc ls (new ∷ []) (map (padded s) (prefixed s true (x .more) ([] ∷ [])))) e₂
+      let fit : (overlapping (x .one) || anyOverlapping (x .more)) ≡ false = sym (ap anyOverlapping (x .are)) ∙ apart in
+      let new = padded s (behindPrefix s [] (x .one)) in
+      let e₁ = line (x .one) (x .first) (and-left (readableLine (x .one)) (all readableLine (x .more)) good) (or-left (overlapping (x .one)) (anyOverlapping (x .more)) fit) well-formed-nil text-width-nil st ls e in
+      let e₂ = others (x .more) (x .later) (and-right (readableLine (x .one)) (all readableLine (x .more)) good) (or-right (overlapping (x .one)) (anyOverlapping (x .more)) fit) st (ls ++ (new ∷ [])) e₁ in
+      rw (x .are, paired-on s true (x .one) (x .more) [] [], ← append-assoc ls (new ∷ []) (map (padded s) (behindPrefixes s true (x .more) ([] ∷ [])))) e₂
 
 -- Up to a place of the cell its lines are added, and those from it on are left.
 pub record InCell (out₀ : List ℕ) (p : Lines) (s : RenderOptions) (body out : List ℕ) (q : Lines) (at : ℕ) : Type 0 where
@@ -135,68 +137,69 @@ between-is s false = refl
 -- the cells that are left, the first of all among them or not
 abbrev AddsFrom : Bool → List ℕ → Lines → RenderOptions → List ℕ → List ℕ → Lines → Type 0
 AddsFrom first out p s cells out′ r =
-    (cs : List Cell) → readAll readCell (raws cells) ≡ some cs → all readableCell cs ≡ true
-    → (st : List ℕ) (ls : List RenderLine) → Emitted st ls out p → Emitted st (ls ++ map (padded s) (cellLines s first cs)) out′ r
+    (cs : List Cell) → readAll readPlainCell (raws cells) ≡ some cs → all readableCell cs ≡ true → cellsMisfit cs ≡ false
+    → (st : List ℕ) (ls : List RenderLine) → Emitted st ls [] out p → Emitted st (ls ++ map (padded s) (cellLines s first cs)) [] out′ r
 
 -- the lines of a cell that is read
-cell-lines : (letter w : ℕ) (body : List ℕ) (c : Cell) → readCell (whole letter (w ∷ body)) ≡ some c → readAll readLine (raws body) ≡ some (c .lines)
-unfolding readCell
+pub cell-lines : (letter w : ℕ) (body : List ℕ) (c : Cell) → readPlainCell (whole letter (w ∷ body)) ≡ some c → readAll readLine (raws body) ≡ some (c .lines)
+unfolding readPlainCell
 cell-lines letter w body c e = go (eqb letter 0x43) e
   where
-    known : (o : Option (List RenderLine)) → Option·map (cell w) o ≡ some c → o ≡ some (c .lines)
+    known : (o : Option (List RenderLine)) → Option·map (cell w 1) o ≡ some c → o ≡ some (c .lines)
     known none e = absurd (let z : _≡_ {A = ℕ} 0 1 = cc in omega arith)
-    known (some ls) e = ap (λ (d : Cell). some (d .lines)) (Option·some-injective (cell w ls) c e)
+    known (some ls) e = ap (λ (d : Cell). some (d .lines)) (Option·some-injective (cell w 1 ls) c e)
 
     go : (t : Bool) → (if t then readCellContent (w ∷ body) else none) ≡ some c → readAll readLine (raws body) ≡ some (c .lines)
     go true e = known (readAll readLine (raws body)) e
     go false e = absurd (let z : _≡_ {A = ℕ} 0 1 = cc in omega arith)
 
 -- what has no width is no cell
-no-width : (letter : ℕ) (c : Cell) → readCell (whole letter []) ≡ some c → ⊥
-unfolding readCell
+pub no-width : (letter : ℕ) (c : Cell) → readPlainCell (whole letter []) ≡ some c → ⊥
+unfolding readPlainCell
 no-width letter c e = go (eqb letter 0x43) e
   where
     go : (t : Bool) → (if t then readCellContent [] else none) ≡ some c → ⊥
     go true e = let z : _≡_ {A = ℕ} 0 1 = cc in omega arith
     go false e = let z : _≡_ {A = ℕ} 0 1 = cc in omega arith
 
-no-cells-read : (cs : List Cell) → readAll readCell (broken ∷ []) ≡ some cs → ⊥
-unfolding readCell
-no-cells-read cs e = let x = read-first readCell broken [] cs e .first in let z : _≡_ {A = ℕ} 0 1 = cc in omega arith
+pub no-cells-read : (cs : List Cell) → readAll readPlainCell (broken ∷ []) ≡ some cs → ⊥
+unfolding readPlainCell
+no-cells-read cs e = let x = read-first readPlainCell broken [] cs e .first in let z : _≡_ {A = ℕ} 0 1 = cc in omega arith
 
 module _ (first : Bool) (out : List ℕ) (p : Lines) (s : RenderOptions) (cells : List ℕ) where
   -- No cell is left.
   from-none : raws cells ≡ [] → AddsFrom first out p s cells out p
-  from-none is cs read ok st ls e =
-      let none-left = read-none readCell cs (sym (ap (readAll readCell) is) ∙ read) in
+  from-none is cs read ok apart st ls e =
+      let none-left = read-none readPlainCell cs (sym (ap (readAll readPlainCell) is) ∙ read) in
       rw (none-left, cells-none s first, append-nil ls) e
 
   -- A rest that is no field.
   from-broken : raws cells ≡ broken ∷ [] → AddsFrom first out p s cells out p
-  from-broken is cs read ok st ls e = absurd (no-cells-read cs (sym (ap (readAll readCell) is) ∙ read))
+  from-broken is cs read ok apart st ls e = absurd (no-cells-read cs (sym (ap (readAll readPlainCell) is) ∙ read))
 
   -- A field that is no cell.
   from-empty : (out′ : List ℕ) (r : Lines) (letter : ℕ) (bytes left : List ℕ) → raws cells ≡ whole letter bytes ∷ raws left → bytes ≡ []
       → AddsFrom first out p s cells out′ r
-  from-empty out′ r letter bytes left is empty cs read ok st ls e =
-      let x = read-first readCell (whole letter bytes) (raws left) cs (sym (ap (readAll readCell) is) ∙ read) in
-      absurd (no-width letter (x .one) (sym (ap (λ (bs : List ℕ). readCell (whole letter bs)) empty) ∙ x .first))
+  from-empty out′ r letter bytes left is empty cs read ok apart st ls e =
+      let x = read-first readPlainCell (whole letter bytes) (raws left) cs (sym (ap (readAll readPlainCell) is) ∙ read) in
+      absurd (no-width letter (x .one) (sym (ap (λ (bs : List ℕ). readPlainCell (whole letter bs)) empty) ∙ x .first))
 
   -- One cell, and those after it.
   from-on : (o₁ o₂ out′ : List ℕ) (p₁ p₂ r : Lines) (drawn : Bool) (letter w : ℕ) (bytes body left : List ℕ) → drawn ≡ drawsBetween s first
       → raws cells ≡ whole letter bytes ∷ raws left → bytes ≡ w ∷ body → AddsRuleIf out p s HorizVert drawn o₁ p₁ → AddsCell o₁ p₁ s body o₂ p₂
       → AddsFrom false o₂ p₂ s left out′ r → AddsFrom first out p s cells out′ r
   unfolding all readableLines
-  from-on o₁ o₂ out′ p₁ p₂ r drawn letter w bytes body left sep is width rule one others cs read ok st ls e =
-      let x = read-first readCell (whole letter bytes) (raws left) cs (sym (ap (readAll readCell) is) ∙ read) in
+  from-on o₁ o₂ out′ p₁ p₂ r drawn letter w bytes body left sep is width rule one others cs read ok apart st ls e =
+      let x = read-first readPlainCell (whole letter bytes) (raws left) cs (sym (ap (readAll readPlainCell) is) ∙ read) in
       let good : all readableCell (x .one ∷ x .more) ≡ true = sym (ap (all readableCell) (x .are)) ∙ ok in
       let lines = x .one .lines in
-      let reads : readAll readLine (raws body) ≡ some lines = cell-lines letter w body (x .one) (sym (ap (λ (bs : List ℕ). readCell (whole letter bs)) width) ∙ x .first) in
+      let reads : readAll readLine (raws body) ≡ some lines = cell-lines letter w body (x .one) (sym (ap (λ (bs : List ℕ). readPlainCell (whole letter bs)) width) ∙ x .first) in
       let edge : ruleIf s HorizVert drawn ≡ between s first = ap (ruleIf s HorizVert) sep ∙ sym (between-is s first) in
-      let new = prefixed s true lines ([] ∷ []) in
-      let e₁ : Emitted st (ls ++ map (padded s) (between s first)) o₁ p₁ = rw edge at (rule st ls e) in
-      let e₂ = one lines reads (and-left (readableCell (x .one)) (all readableCell (x .more)) good) st _ e₁ in
-      let e₃ = others (x .more) (x .later) (and-right (readableCell (x .one)) (all readableCell (x .more)) good) st _ e₂ in
+      let fit : (anyOverlapping lines || cellsMisfit (x .more)) ≡ false = sym (cells-misfit-on (x .one) (x .more)) ∙ sym (ap cellsMisfit (x .are)) ∙ apart in
+      let new = behindPrefixes s true lines ([] ∷ []) in
+      let e₁ : Emitted st (ls ++ map (padded s) (between s first)) [] o₁ p₁ = rw edge at (rule st ls e) in
+      let e₂ = one lines reads (and-left (readableCell (x .one)) (all readableCell (x .more)) good) (or-left (anyOverlapping lines) (cellsMisfit (x .more)) fit) st _ e₁ in
+      let e₃ = others (x .more) (x .later) (and-right (readableCell (x .one)) (all readableCell (x .more)) good) (or-right (anyOverlapping lines) (cellsMisfit (x .more)) fit) st _ e₂ in
       rw (x .are, cells-on s first (x .one) (x .more), ← three-lists s ls (between s first) new (cellLines s false (x .more))) e₃
 
 -- Up to a place the cells are added, and those from it on are left.
@@ -223,7 +226,7 @@ stack-start out p s cells h k n =
     }
 
 -- the width, and the bytes after it
-width-first : (s : List ℕ) (at letter start next : ℕ) → FieldIs s at letter start next → start < next
+pub width-first : (s : List ℕ) (at letter start next : ℕ) → FieldIs s at letter start next → start < next
     → take (next - start) (drop start s) ≡ getD s start 0 ∷ take (next - (start + 1)) (drop (start + 1) s)
 width-first s at letter start next f h =
     let one : start + 1 ≡ suc start = omega arith in

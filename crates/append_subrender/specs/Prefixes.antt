@@ -1,4 +1,5 @@
--- A guest's lines behind their prefixes: what each function does to the sheet's lines, for inputs that passed refusals 1 to 3.
+-- A guest's lines behind their prefixes: what each function does to the sheet's lines, for inputs that passed refusals 1 to 3
+-- and 10.
 -- Assumes nothing: these are definitions.
 use mathlib.Core.Path.{_≡_}
 use mathlib.Core.Bool.{Bool, true, false, _&&_}
@@ -8,15 +9,16 @@ use Prim.Native.Nat.{ℕ, _+_, _-_, _≤_}
 use lib.ListN.{length, take, drop}
 use Rattle.characters.specs.If.{if_then_else_}
 use Rattle.fields.specs.Field.{whole, raws, readAll, all}
-use Rattle.fields.specs.Text.{readableText}
-use Rattle.fields.specs.Sheet.{RenderLine, border, readLine, readableLine, readPrefix, Cell, readCell, readableCell}
+use Rattle.fields.specs.Text.{readableText, WellFormed}
+use Rattle.fields.specs.Sheet.{readPrefix}
 use Rattle.fields.specs.Widths.{text-width}
 use Rattle.borders.specs.BorderHoriz.{new-type}
 use Rattle.rows.specs.declared.RenderOptions.{RenderOptions}
-use Rattle.block.specs.Demands.{WellFormed}
-use Rattle.rows.specs.SubRenderer.{padded, withPrefix, later, prefixed, between}
-use Rattle.add_line.specs.Emitted.{Emitted}
-use Rattle.add_line.specs.declared.lines.Lines.{Lines}
+use Rattle.rows.specs.SubRenderer.{later, padded, plainBorder}
+use Rattle.fields.specs.Spans.{RenderLine, readLine, readableLine, Cell, readPlainCell, readableCell}
+use Rattle.extend_lines.specs.Emitted.{Emitted}
+use Rattle.extend_lines.specs.declared.lines.Lines.{Lines}
+use Rattle.append_subrender.specs.Misfit.{overlapping, anyOverlapping, guestMisfit, cellsMisfit, behindPrefix, behindPrefixes, cellLines}
 use Rattle.append_subrender.specs.declared.prefixed.Prefix.{Prefix}
 
 -- ---- the prefix of the next line
@@ -68,46 +70,42 @@ noPrefix = record { found = false; from = 0; to = 0; cols = 0 }
 -- one line behind its prefix
 abbrev pub AddsPrefixed : List ℕ → Lines → RenderOptions → List ℕ → ℕ → ℕ → List ℕ → List ℕ → Lines → Type 0
 AddsPrefixed out p s prefix cols letter content out′ r =
-    (g : RenderLine) → readLine (whole letter content) ≡ some g → readableLine g ≡ true → WellFormed prefix → text-width prefix ≡ cols
-    → (st : List ℕ) (ls : List RenderLine) → Emitted st ls out p → Emitted st (ls ++ (padded s (withPrefix s prefix g) ∷ [])) out′ r
+    (g : RenderLine) → readLine (whole letter content) ≡ some g → readableLine g ≡ true → overlapping g ≡ false
+    → WellFormed prefix → text-width prefix ≡ cols
+    → (st : List ℕ) (ls : List RenderLine) → Emitted st ls [] out p → Emitted st (ls ++ (padded s (behindPrefix s prefix g) ∷ [])) [] out′ r
 
 -- all pairs
 abbrev pub AddsGuest : List ℕ → Lines → RenderOptions → List ℕ → List ℕ → Bool → List ℕ → Lines → Type 0
 AddsGuest out p s guest prefixes rep out′ r =
     (gs : List RenderLine) (ps : List (List ℕ)) → readAll readLine (raws guest) ≡ some gs → all readableLine gs ≡ true
-    → readAll readPrefix (raws prefixes) ≡ some ps → all (readableText false) ps ≡ true
-    → (st : List ℕ) (ls : List RenderLine) → Emitted st ls out p → Emitted st (ls ++ map (padded s) (prefixed s rep gs ps)) out′ r
+    → readAll readPrefix (raws prefixes) ≡ some ps → all (readableText false) ps ≡ true → guestMisfit rep gs ps ≡ false
+    → (st : List ℕ) (ls : List RenderLine) → Emitted st ls [] out p → Emitted st (ls ++ map (padded s) (behindPrefixes s rep gs ps)) [] out′ r
 
 -- ---- cells
 
 -- a border of one segment
 abbrev pub AddsRule : List ℕ → Lines → RenderOptions → ℕ → List ℕ → Lines → Type 0
 AddsRule out p s segment out′ r =
-    (st : List ℕ) (ls : List RenderLine) → Emitted st ls out p
-    → Emitted st (ls ++ (padded s (border (s .annotation) (new-type (s .width) segment)) ∷ [])) out′ r
+    (st : List ℕ) (ls : List RenderLine) → Emitted st ls [] out p
+    → Emitted st (ls ++ (padded s (plainBorder (s .annotation) (new-type (s .width) segment)) ∷ [])) [] out′ r
 
 -- a border of one segment, or nothing where it is not drawn
 abbrev pub ruleIf : RenderOptions → ℕ → Bool → List RenderLine
-ruleIf s segment drawn = if drawn then border (s .annotation) (new-type (s .width) segment) ∷ [] else []
+ruleIf s segment drawn = if drawn then plainBorder (s .annotation) (new-type (s .width) segment) ∷ [] else []
 
 -- the same, added
 abbrev pub AddsRuleIf : List ℕ → Lines → RenderOptions → ℕ → Bool → List ℕ → Lines → Type 0
 AddsRuleIf out p s segment drawn out′ r =
-    (st : List ℕ) (ls : List RenderLine) → Emitted st ls out p → Emitted st (ls ++ map (padded s) (ruleIf s segment drawn)) out′ r
+    (st : List ℕ) (ls : List RenderLine) → Emitted st ls [] out p → Emitted st (ls ++ map (padded s) (ruleIf s segment drawn)) [] out′ r
 
 -- the lines of one cell, with an empty prefix that repeats
 abbrev pub AddsCell : List ℕ → Lines → RenderOptions → List ℕ → List ℕ → Lines → Type 0
 AddsCell out p s body out′ r =
-    (gs : List RenderLine) → readAll readLine (raws body) ≡ some gs → all readableLine gs ≡ true
-    → (st : List ℕ) (ls : List RenderLine) → Emitted st ls out p → Emitted st (ls ++ map (padded s) (prefixed s true gs ([] ∷ []))) out′ r
-
--- the lines that cells add, below each other
-unfoldable pub cellLines : RenderOptions → Bool → List Cell → List RenderLine
-cellLines s first [] = []
-cellLines s first (c ∷ cs) = between s first ++ (prefixed s true (c .lines) ([] ∷ []) ++ cellLines s false cs)
+    (gs : List RenderLine) → readAll readLine (raws body) ≡ some gs → all readableLine gs ≡ true → anyOverlapping gs ≡ false
+    → (st : List ℕ) (ls : List RenderLine) → Emitted st ls [] out p → Emitted st (ls ++ map (padded s) (behindPrefixes s true gs ([] ∷ []))) [] out′ r
 
 -- all cells
 abbrev pub AddsCells : List ℕ → Lines → RenderOptions → List ℕ → List ℕ → Lines → Type 0
 AddsCells out p s cells out′ r =
-    (cs : List Cell) → readAll readCell (raws cells) ≡ some cs → all readableCell cs ≡ true
-    → (st : List ℕ) (ls : List RenderLine) → Emitted st ls out p → Emitted st (ls ++ map (padded s) (cellLines s true cs)) out′ r
+    (cs : List Cell) → readAll readPlainCell (raws cells) ≡ some cs → all readableCell cs ≡ true → cellsMisfit cs ≡ false
+    → (st : List ℕ) (ls : List RenderLine) → Emitted st ls [] out p → Emitted st (ls ++ map (padded s) (cellLines s true cs)) [] out′ r

@@ -1,8 +1,8 @@
 // Cells below each other. What a function here requires, its callers in this crate show.
 use crate::prefixed::add_prefixed;
-use add_line::lines::Lines;
-use add_line::lines::add_border;
 use borders::border::new_type;
+use extend_lines::lines::Lines;
+use extend_lines::lines::add_border;
 use fields::field::Field;
 use fields::field::field_at;
 use fields::field::wide;
@@ -10,7 +10,7 @@ use rows::RenderOptions;
 ghost use Prim.Native.Nat.{_+_, _*_, _≤_, _<_};
 ghost use lib.ListN.{length};
 ghost use Rattle.fields.specs.Field.{raws};
-ghost use Rattle.add_line.specs.Emitted.{InBounds, OneLineMore};
+ghost use Rattle.extend_lines.specs.Emitted.{InBounds, OneLineMore};
 ghost use Rattle.append_subrender.specs.Prefixes.{AddsRule, AddsRuleIf, AddsCell, AddsCells};
 
 // A border of one segment, as wide as the sheet.

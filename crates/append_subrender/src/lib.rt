@@ -1,20 +1,25 @@
-// `append_subrender` and `append_vert_row` (document 01, "Rows and blocks on a sheet"): a guest's lines behind their prefixes, and
-// cells below each other with borders between them.
+// `append_subrender` and `append_vert_row` (document 01, "Rows and blocks on a sheet", and request 2.1): a guest's lines behind their
+// prefixes, and cells below each other with borders between them. The cells that hang from the sheet are handed on, and the guest's dropped.
 mod cells;
+mod misfit;
 mod prefixed;
 
 use crate::cells::add_cells;
 use crate::cells::add_rule_if;
+use crate::misfit::cells_misfit;
+use crate::misfit::guest_misfit;
 use crate::prefixed::add_guest;
-use add_line::copy::copy_lines;
-use add_line::lines::close;
-use add_line::lines::no_lines;
+use checks::cells::plain_cells_refusal;
+use checks::sheet::first_hanging;
+use checks::sheet::sheet_refusal;
+use extend_lines::copy::copy_lines;
+use extend_lines::copy::hand_on;
+use extend_lines::lines::close;
+use extend_lines::lines::no_lines;
 use fields::answer::Rendered;
 use fields::answer::refuse;
-use fields::cells::cells_refusal;
 use fields::field::first_of;
 use fields::prefixes::prefixes_refusal;
-use fields::sheet::sheet_refusal;
 use rows::RenderOptions;
 use rows::width_refusal;
 ghost use mathlib.Core.Path.{_≡_};
@@ -39,9 +44,16 @@ pub fn append_subrender(
     if n != 0 {
         return refuse(n, store);
     }
-    let old = copy_lines(store, no_lines(), &sheet[5..]);
-    let lines = add_guest(store, old, options, &guest[5..], prefixes, repeats);
-    close(lines, store)
+    let last = first_hanging(guest);
+    let lines = &guest[5..last];
+    if guest_misfit(lines, prefixes, repeats) {
+        return refuse(10, store);
+    }
+    let hung = first_hanging(sheet);
+    let old = copy_lines(store, no_lines(), &sheet[5..hung]);
+    let new = add_guest(store, old, options, lines, prefixes, repeats);
+    let all = hand_on(store, new, &sheet[hung..]);
+    close(all, store)
 }
 
 // The cells below each other, each with an empty prefix; borders of HorizVert between them and one of Horiz at the end, if
@@ -54,13 +66,18 @@ pub fn append_vert_row(
 ) -> Rendered
     ensures { λ r. ⌜ rendered r (now (store .exit)) ≡ vertRowAnswer options (now (sheet .entry)) (now (cells .entry)) (now (store .entry)) ⌝ }
 {
-    let inputs = first_of(sheet_refusal(sheet), cells_refusal(cells));
+    let inputs = first_of(sheet_refusal(sheet), plain_cells_refusal(cells));
     let n = first_of(inputs, width_refusal(options.width));
     if n != 0 {
         return refuse(n, store);
     }
-    let old = copy_lines(store, no_lines(), &sheet[5..]);
-    let lines = add_cells(store, old, options, cells);
-    let all = add_rule_if(store, lines, options, 0, options.borders);
+    if cells_misfit(cells) {
+        return refuse(10, store);
+    }
+    let hung = first_hanging(sheet);
+    let old = copy_lines(store, no_lines(), &sheet[5..hung]);
+    let new = add_cells(store, old, options, cells);
+    let lines = add_rule_if(store, new, options, 0, options.borders);
+    let all = hand_on(store, lines, &sheet[hung..]);
     close(all, store)
 }

@@ -1,20 +1,20 @@
 // A guest's lines behind their prefixes. What a function here requires, its callers in this crate show.
-use add_line::lines::Lines;
-use add_line::lines::add_text_line;
-use borders::draw::drawn_len;
+use extend_lines::lines::Lines;
+use extend_lines::lines::add_text_line;
 use fields::field::Field;
 use fields::field::field_at;
 use fields::width::text_width;
+use holes::draw::push_holed;
+use places::border::border_parts;
 use rows::RenderOptions;
 use tagged_line::line::new_line;
-use tagged_line::line::push_drawn;
 use tagged_line::line::push_str;
 use tagged_line::piece::add_pieces;
 ghost use mathlib.Core.Path.{_≡_};
 ghost use Prim.Native.Nat.{_+_, _≤_, _<_};
 ghost use lib.ListN.{length};
 ghost use Rattle.fields.specs.Field.{raws};
-ghost use Rattle.add_line.specs.Emitted.{InBounds, OneLineMore};
+ghost use Rattle.extend_lines.specs.Emitted.{InBounds, OneLineMore};
 ghost use Rattle.append_subrender.specs.Prefixes.{Placed, again, Steps, AddsPrefixed, AddsGuest};
 
 // The prefix of the next line, from one place to another of the prefixes' bytes, and its columns; or that there is none.
@@ -25,8 +25,8 @@ pub struct Prefix {
     pub cols: usize,
 }
 
-// One line of the guest behind its prefix: the prefix joins the first piece where annotations are equal, and a border becomes text
-// with the sheet's annotation.
+// One line of the guest behind its prefix: the prefix joins the first piece where annotations are equal, and a border, with
+// holes or without, becomes text with the sheet's annotation.
 pub fn add_prefixed(
     out: &mut [u8],
     lines: Lines,
@@ -47,12 +47,8 @@ pub fn add_prefixed(
         let whole = add_pieces(out, head, content, true, false);
         return add_text_line(out, lines, whole, options);
     }
-    if content.len() < 1 {
-        return add_text_line(out, lines, head, options);
-    }
-    let segs = &content[1..];
-    let n = drawn_len(segs, false);
-    let drawn = push_drawn(out, head, annotation, segs, n, 0, false);
+    let parts = border_parts(letter, content);
+    let drawn = push_holed(out, head, annotation, content, parts.segs, parts.holes, 0);
     add_text_line(out, lines, drawn, options)
 }
 

@@ -1,12 +1,12 @@
 // Replays stored inputs with the refusal that each must get. The file on standard input is made by
 // `oracle checks` and is a list of records: a kind byte (0 job, 1 sheet, 2 list of cells, 3 list of
-// prefixes), a length of three bytes, the high byte first, that many bytes, and the number. The
-// committed file, crates/checks_test/stdin, was made by `oracle checks 7 14000 1000`.
-use fields::cells::cells_refusal;
+// prefixes), a length of three bytes, the high byte first, that many bytes, and the number. The committed file,
+// crates/checks_test/stdin, was made by `oracle checks 7 10001 1000`, without its one cell of letter K, and `oracle checks spans 7 4000 1000`.
+use checks::cells::cells_refusal;
+use checks::sheet::sheet_refusal;
 use fields::field::wide;
 use fields::job::job_refusal;
 use fields::prefixes::prefixes_refusal;
-use fields::sheet::sheet_refusal;
 use libc::STDIN_FILENO;
 use libc::STDOUT_FILENO;
 

@@ -1,15 +1,15 @@
--- `append_subrender` meets its contract: the first of the inputs' refusals, or the old lines and after them the pairs.
+-- `append_subrender` meets its contract: the first of the inputs' refusals, or refusal 10, or the old lines, after them the pairs, and what
+-- hangs from the old sheet.
 -- Assumes nothing.
 use mathlib.Core.Path.{_≡_, ap₂, _∙_}
-use Prim.Native.Nat.{_≤_}
 use native.Mathlib.Omega.{arith}
-use lib.ListN.{length}
 use denote.Ref.{now}
-use Rattle.fields.specs.Field.{raws}
 use Rattle.fields.specs.First.{firstOf}
-use Rattle.fields.specs.Sheet.{readSheet, readPrefixes}
-use Rattle.rows.proofs.Refusing.{sheet-read, subrenderNumber, SubrenderPasses, subrender-passes}
-use Rattle.append_subrender.proofs.Calling.{body, fields-few, none-bounds, place-small, subrender-refuses, subrender-gives}
+use Rattle.fields.specs.Sheet.{readPrefixes}
+use Rattle.fields.specs.Spans.{readSheet}
+use Rattle.checks.specs.Split.{SheetAt}
+use Rattle.append_subrender.proofs.Refusing.{subrenderNumber, SubrenderPasses, subrender-passes}
+use Rattle.append_subrender.proofs.Calling.{none-bounds, subrender-refuses, subrender-misfits, subrender-gives}
 use borrow.Author.Needs.{needs}
 use Rattle.append_subrender.proofs.append_subrender.Statement.{statement}
 use Rattle.append_subrender.proofs.append_subrender.Tie as tie
@@ -52,26 +52,54 @@ number c =
 returns : tie.Need-returns
 returns c = subrender-refuses _ _ _ _ _ _ _ _ (number (c .before .before .before .before .before)) (c .before .before .before .before .if1 .taken) (c .before .before .refuse .ensures)
 
+first-hanging-requires : tie.Need-first-hanging-requires
+first-hanging-requires c κs = search needs
+
 -- where it is 0 the inputs pass
-passes : (c : tie.After-copy-lines-arg)
+passes : (c : tie.After-first-hanging)
     → SubrenderPasses (c .before .before .before .before .before .before .before .before .before .before .before .before .before .args .options) (readSheet (now (c .before .before .before .before .before .before .before .before .before .before .before .before .before .args .sheet))) (readSheet (now (c .before .before .before .before .before .before .before .before .before .before .before .before .before .args .guest))) (readPrefixes (now (c .before .before .before .before .before .before .before .before .before .before .before .before .before .args .prefixes))) (c .before .before .before .before .before .before .before .before .before .before .before .before .before .args .repeats)
 passes c = subrender-passes _ _ _ _ _ _ (number (c .before .before)) (c .before .if1 .left)
 
--- their lines are few
-few : (c : tie.After-copy-lines-arg) → length (raws (body (now (c .before .before .before .before .before .before .before .before .before .before .before .before .before .args .sheet)))) ≤ 65535
-few c = fields-few _ _ (passes c .reads-old) (omega (arith, c .before .before .before .before .before .before .before .before .before .before .before .before .shared-slice-known .given 3)) (omega (arith, c .before .before .before .before .before .before .before .before .before .before .before .before .shared-slice-known .given 4))
+-- the parts of the guest
+guest-at : (c : tie.After-first-hanging) → SheetAt (now (c .before .before .before .before .before .before .before .before .before .before .before .before .before .args .guest)) (c .first-hanging .result) (passes c .guest)
+guest-at c = c .first-hanging .ensures .1 (passes c .guest) (passes c .reads-guest)
 
-few-guest : (c : tie.After-copy-lines-arg) → length (raws (body (now (c .before .before .before .before .before .before .before .before .before .before .before .before .before .args .guest)))) ≤ 65535
-few-guest c = fields-few _ _ (passes c .reads-guest) (omega (arith, c .before .before .before .before .before .before .before .before .before .before .before .shared-slice-known2 .given 3)) (omega (arith, c .before .before .before .before .before .before .before .before .before .before .before .shared-slice-known2 .given 4))
+sub-lines : tie.Need-sub-lines
+sub-lines c = guest-at c .lines .order
+
+part-lines-start : tie.Need-part-lines-start
+part-lines-start c = let g = guest-at c .lines in omega (arith, g .order, g .inside)
+
+part-lines-end : tie.Need-part-lines-end
+part-lines-end c = search needs
+
+guest-misfit-requires : tie.Need-guest-misfit-requires
+guest-misfit-requires c κs = search needs
+
+refuse-requires-2 : tie.Need-refuse-requires-2
+refuse-requires-2 c κs = search needs
+
+same-length-2 : tie.Need-same-length-2
+same-length-2 c = search needs
+
+returns-2 : tie.Need-returns-2
+returns-2 c = subrender-misfits _ _ _ _ _ (passes (c .before .before .before .before .before .before .before)) _ _ (c .before .before .before .before .before .before .before .first-hanging .ensures .1) (c .before .before .before .before .before .guest-misfit .result) (c .before .before .before .before .before .guest-misfit .ensures) _ (c .before .before .before .before .if2 .taken) (c .before .before .refuse2 .ensures)
+
+first-hanging-requires-2 : tie.Need-first-hanging-requires-2
+first-hanging-requires-2 c κs = search needs
+
+-- the parts of the old sheet
+old-at : (c : tie.After-first-hanging2) → SheetAt (now (c .before .before .before .before .before .before .before .before .before .before .before .before .before .before .before .before .before .args .sheet)) (c .first-hanging2 .result) (passes (c .before .before .before .before) .old)
+old-at c = c .first-hanging2 .ensures .1 (passes (c .before .before .before .before) .old) (passes (c .before .before .before .before) .reads-old)
 
 no-lines-requires : tie.Need-no-lines-requires
 no-lines-requires c κs = search needs
 
 sub-copy-lines : tie.Need-sub-copy-lines
-sub-copy-lines c = sheet-read _ _ (passes (c .before) .reads-old) .long
+sub-copy-lines c = old-at (c .before .before) .lines .order
 
 part-copy-lines-start : tie.Need-part-copy-lines-start
-part-copy-lines-start c = omega (arith, sheet-read _ _ (passes (c .before) .reads-old) .long)
+part-copy-lines-start c = let o = old-at (c .before .before) .lines in omega (arith, o .order, o .inside)
 
 part-copy-lines-end : tie.Need-part-copy-lines-end
 part-copy-lines-end c = search needs
@@ -79,30 +107,33 @@ part-copy-lines-end c = search needs
 copy-lines-requires : tie.Need-copy-lines-requires
 copy-lines-requires c κs =
     let b = none-bounds _ (c .before .no-lines .ensures) in
-    (b .0, omega (arith, b .1, few (c .before .before)))
-
-sub-add-guest : tie.Need-sub-add-guest
-sub-add-guest c = sheet-read _ _ (passes (c .before .before .before .before .before .before) .reads-guest) .long
-
-part-add-guest-start : tie.Need-part-add-guest-start
-part-add-guest-start c = omega (arith, sheet-read _ _ (passes (c .before .before .before .before .before .before) .reads-guest) .long)
-
-part-add-guest-end : tie.Need-part-add-guest-end
-part-add-guest-end c = search needs
+    (b .0, omega (arith, b .1, old-at (c .before .before .before) .few))
 
 add-guest-requires : tie.Need-add-guest-requires
 add-guest-requires c κs =
-    let copied = c .before .before .before .before .copy-lines .ensures .0 in
-    (copied .0, omega (arith, copied .1, none-bounds _ (c .before .before .before .before .before .before .no-lines .ensures) .1, few (c .before .before .before .before .before .before .before), few-guest (c .before .before .before .before .before .before .before)))
+    let copied = c .before .before .before .copy-lines .ensures .0 in
+    (copied .0, omega (arith, copied .1, none-bounds _ (c .before .before .before .before .before .no-lines .ensures) .1, old-at (c .before .before .before .before .before .before .before) .few, guest-at (c .before .before .before .before .before .before .before .before .before .before .before) .few))
+
+sub-hand-on : tie.Need-sub-hand-on
+sub-hand-on c = search needs
+
+part-hand-on-start : tie.Need-part-hand-on-start
+part-hand-on-start c = search needs
+
+part-hand-on-end : tie.Need-part-hand-on-end
+part-hand-on-end c = search needs
+
+hand-on-requires : tie.Need-hand-on-requires
+hand-on-requires c κs = c .before .before .before .before .add-guest .ensures .0 .0
 
 close-requires : tie.Need-close-requires
-close-requires c κs = place-small _ (c .before .before .before .add-guest .ensures .0 .0)
+close-requires c κs = search needs
 
-same-length-2 : tie.Need-same-length-2
-same-length-2 c = search needs
+same-length-3 : tie.Need-same-length-3
+same-length-3 c = search needs
 
-returns-2 : tie.Need-returns-2
-returns-2 c = subrender-gives _ _ _ _ _ _ _ _ _ _ _ _ (passes (c .before .before .before .before .before .before .before .before .before .before .before .before .before .before)) (c .before .before .before .before .before .before .before .before .before .before .before .before .before .no-lines .ensures) (c .before .before .before .before .before .before .before .before .before .before .before .copy-lines .ensures .1) (c .before .before .before .before .before .before .add-guest .ensures .1) (c .before .before .close .ensures)
+returns-3 : tie.Need-returns-3
+returns-3 c = subrender-gives _ _ _ _ _ (passes (c .before .before .before .before .before .before .before .before .before .before .before .before .before .before .before .before .before .before .before .before .before .before .before)) _ _ (c .before .before .before .before .before .before .before .before .before .before .before .before .before .before .before .before .before .before .before .before .before .before .before .first-hanging .ensures .1) (c .before .before .before .before .before .before .before .before .before .before .before .before .before .before .before .before .before .before .before .before .before .guest-misfit .result) (c .before .before .before .before .before .before .before .before .before .before .before .before .before .before .before .before .before .before .before .before .before .guest-misfit .ensures) _ _ _ _ _ _ _ _ _ (c .before .before .before .before .before .before .before .before .before .before .before .before .before .before .before .before .before .before .before .before .if2 .left) (c .before .before .before .before .before .before .before .before .before .before .before .before .before .before .before .before .before .before .before .first-hanging2 .ensures .1) (c .before .before .before .before .before .before .before .before .before .before .before .before .before .before .before .before .before .no-lines .ensures) (c .before .before .before .before .before .before .before .before .before .before .before .before .before .before .before .copy-lines .ensures .1) (c .before .before .before .before .before .before .before .before .before .before .before .add-guest .ensures .1) (c .before .before .before .before .before .before .hand-on .ensures .1) (c .before .before .close .ensures)
 
 pub append-subrender-spec : {M : Type 1} → statement M
 append-subrender-spec =
@@ -118,15 +149,25 @@ append-subrender-spec =
     refuse-requires
     same-length
     returns
+    first-hanging-requires
+    sub-lines
+    part-lines-start
+    part-lines-end
+    guest-misfit-requires
+    refuse-requires-2
+    same-length-2
+    returns-2
+    first-hanging-requires-2
     no-lines-requires
     sub-copy-lines
     part-copy-lines-start
     part-copy-lines-end
     copy-lines-requires
-    sub-add-guest
-    part-add-guest-start
-    part-add-guest-end
     add-guest-requires
+    sub-hand-on
+    part-hand-on-start
+    part-hand-on-end
+    hand-on-requires
     close-requires
-    same-length-2
-    returns-2)
+    same-length-3
+    returns-3)

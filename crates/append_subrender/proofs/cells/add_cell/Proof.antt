@@ -6,7 +6,7 @@ use native.Mathlib.Omega.{arith}
 use lib.ListN.{length}
 use denote.Ref.{now}
 use Rattle.fields.proofs.Fields.{FieldIs, field-is, field-broken, field-end}
-use Rattle.add_line.proofs.Copying.{content-short}
+use Rattle.extend_lines.proofs.Copying.{content-short}
 use Rattle.append_subrender.proofs.Stacking.{InCell, none-few, within-start, within-on, within-few, within-end, within-broken}
 use borrow.Author.Needs.{needs}
 use Rattle.append_subrender.proofs.cells.add_cell.Statement.{statement}

@@ -8,7 +8,7 @@ use lib.ListN.{length}
 use denote.Ref.{now}
 use Rattle.characters.proofs.Tests.{not-true}
 use Rattle.fields.proofs.Fields.{FieldIs, field-is, field-broken, field-end}
-use Rattle.add_line.proofs.Copying.{content-short}
+use Rattle.extend_lines.proofs.Copying.{content-short}
 use borrow.Author.Needs.{needs}
 use Rattle.append_subrender.proofs.Adding.{Walk, walk-start, walk-on, walk-few, walk-out, walk-end, walk-broken, prefix-size}
 use Rattle.append_subrender.proofs.prefixed.add_guest.Statement.{statement}

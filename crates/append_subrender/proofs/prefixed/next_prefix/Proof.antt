@@ -7,7 +7,7 @@ use borrow.Author.Needs.{needs}
 use lib.ListN.{length, take, drop}
 use denote.Ref.{now}
 use Rattle.fields.proofs.Fields.{FieldIs, field-is, field-broken, field-end}
-use Rattle.add_line.proofs.Copying.{content-short}
+use Rattle.extend_lines.proofs.Copying.{content-short}
 use Rattle.append_subrender.proofs.Pairing.{next-found, next-last, next-broken}
 use Rattle.append_subrender.proofs.prefixed.next_prefix.Statement.{statement}
 use Rattle.append_subrender.proofs.prefixed.next_prefix.Tie as tie

@@ -1,6 +1,0 @@
-pub mod Pairing
-pub mod Refusing
-pub mod Adding
-pub mod Stacking
-pub mod Telling
-pub mod Calling

@@ -1,2 +1,0 @@
-pub mod Misfit
-pub mod Prefixes
