@@ -107,6 +107,8 @@ uint8_t sheet_append_vert_row(const uint8_t *sheet, size_t sheet_length,
  * - The lines of a K cell are filled to its width in its first row; a V field's are laid as they stand.
  * - A G field in a guest or a cell becomes text of the call's annotation: its holes' texts show, their names are gone.
  *   With `pad` the border below a row becomes text too; there names and annotations stay.
+ * - To print a sheet, give it to sheet_append_subrender as the guest of a sheet without lines, with one empty prefix that
+ *   repeats: each line of the answer is a text, the borders too.
  * Refusal 10 is given where
  * - a G field that becomes text in a guest, a cell or a hanging cell has a hole that begins before the one ahead of it
  *   ends;
