@@ -10,14 +10,16 @@
 //! | input | fields |
 //! |---|---|
 //! | job | `W` (width, flags: 1 pad, 2 allow overflow; annotation of padding), then `T` (mode: 0 Normal, 1 Pre, 2 PreWrap; annotation, annotation of what wraps in Pre, UTF-8 text) and `F` (name) |
-//! | sheet | `H` (number of lines, two bytes), then so many `L` (`S`: annotation, text; `F`: name) and `B` (annotation, a segment for each column, 0 to 11) |
-//! | cells | `C` (width, then `L` and `B`: a sheet's lines, without the `H`) |
+//! | sheet | `H` (number of lines, two bytes), then so many lines, then any number of `V`, which `H` does not count |
+//! | lines | `L` (`S`: annotation, text; `F`: name), `B` (annotation, a segment for each column, 0 to 11) and `G`, a border with holes (annotation, number of segments in two bytes, the segments, then for each hole its column in two bytes and an `S` or `F`) |
+//! | hanging cell | `V` (position in two bytes, width, rows left, then lines) |
+//! | cells | `C` (width, then lines) and `K`, a cell that spans rows (width, number of rows, 1 to 16, then lines); a cell's lines are a sheet's without the `H` and the `V` |
 //! | prefixes | `P` (text) |
 //!
 //! The repository's README.md says more, and which characters a text may hold. Each call writes a sheet into a
 //! store that the caller lends and gives its length, or a [`Refusal`]. On success the store's
 //! bytes past the sheet are as they were; on a refusal the whole store is zeroed. Nothing is
-//! allocated, and a call uses about 71 KB of stack.
+//! allocated, and a call uses at most 160 KB of stack.
 //!
 //! ```
 //! // Width 8, then the text "bolt M8 zinc" in Normal.
@@ -82,7 +84,9 @@ pub fn render(job: &[u8], store: &mut [u8]) -> Answer {
 /// The sheet with the guest sheet's lines added, each behind a prefix.
 ///
 /// Lines and prefixes (P fields) go in pairs, which end with the shorter list; with
-/// `repeat_last` the last prefix repeats. Refusals: 1, 2, 3, 7, 8 and 9.
+/// `repeat_last` the last prefix repeats. A border, with holes or without, becomes text of the
+/// call's annotation. The sheet's V fields are handed on as they are, and the guest's are dropped.
+/// Refusals: 1, 2, 3, 7, 8, 9 and 10.
 ///
 /// ```
 /// use sheet::{RenderOptions, append_subrender};
@@ -109,11 +113,11 @@ pub fn append_subrender(
     answer(number, length)
 }
 
-/// The sheet with a row of cells beside each other (at most 16 C fields).
+/// The sheet with a row of cells beside each other (at most 16 C and K fields).
 ///
 /// The cells' inner edges are joined to the border above, if the sheet ends in one, and to a
 /// new border below. With `collapse` the cells' own first and last borders are merged into
-/// these two. Refusals: 1, 2, 3, 6, 7, 8 and 9.
+/// these two. Refusals: 1, 2, 3, 6, 7, 8, 9 and 10.
 ///
 /// ```
 /// use sheet::{RenderOptions, append_columns_with_borders};
@@ -129,6 +133,42 @@ pub fn append_subrender(
 /// assert_eq!(&store[..length], joined);
 /// # Ok::<(), sheet::Refusal>(())
 /// ```
+///
+/// # Cells that span rows
+///
+/// A K cell stands in its own row and in those after it, as many as it says. After each row but its
+/// last, what is left of it comes back as a V field at the sheet's end; the next call takes it in.
+///
+/// - In these rows a stand-in, a C cell of its width without lines, belongs at the place of each
+///   hanging cell. A V field takes the place of the first cell that does not begin to the left of
+///   its position, and that cell is lost, whatever it holds. Where there is no such cell, the V
+///   field stands after all cells, behind an empty cell that fills the columns up to it.
+/// - For a row's height a spanning cell counts its lines divided by its rows left, rounded down,
+///   and in its last row all lines that it still has.
+/// - The line after those of the row stands in the border below it, each piece a hole (a G field),
+///   and is used up. With borders off it is used up too, and is not shown.
+/// - V fields stay until their rows are laid, also past the end of a table. To end a table early
+///   cut the sheet's bytes at the first V field.
+///
+/// ```
+/// use sheet::{RenderOptions, append_columns_with_borders};
+///
+/// let options = RenderOptions { width: 3, pad: false, borders: true, annotation: 0 };
+/// // ───, and a cell of two rows with the lines "a", "b" and "c", beside the cell "x".
+/// let under = b"H\0\x02\0\x01B\0\x04\0\0\0\0";
+/// let cells = b"K\0\x1a\x01\x02L\0\x05S\0\x02\0aL\0\x05S\0\x02\0bL\0\x05S\0\x02\0cC\0\x09\x01L\0\x05S\0\x02\0x";
+/// let mut first = [0; 128];
+/// let length = append_columns_with_borders(options, under, cells, false, &mut first)?;
+/// // ─┬─, a│x, b└─, and "c" hangs on at column 0, one column wide, for one row more.
+/// assert!(first[..length].ends_with(b"V\0\x0c\0\0\x01\x01L\0\x05S\0\x02\0c"));
+/// // Its stand-in beside the cell "y".
+/// let cells = b"C\0\x01\x01C\0\x09\x01L\0\x05S\0\x02\0y";
+/// let mut second = [0; 128];
+/// let length = append_columns_with_borders(options, &first[..length], cells, false, &mut second)?;
+/// // ─┬─, a│x, b├─, c│y, ─┴─, and nothing hangs.
+/// assert!(second[..length].ends_with(b"L\0\x09S\0\x06\0c\xe2\x94\x82yB\0\x04\0\0\x01\0"));
+/// # Ok::<(), sheet::Refusal>(())
+/// ```
 pub fn append_columns_with_borders(
     options: RenderOptions,
     sheet: &[u8],
@@ -141,10 +181,10 @@ pub fn append_columns_with_borders(
     answer(number, length)
 }
 
-/// The sheet with cells below each other (at most 16 C fields).
+/// The sheet with cells below each other (at most 16 C fields; a K is refusal 1).
 ///
-/// With borders on, a border stands between two cells and one at the end. Refusals: 1, 2, 3,
-/// 7, 8 and 9.
+/// With borders on, a border stands between two cells and one at the end. The sheet's V fields are
+/// handed on as they are. Refusals: 1, 2, 3, 7, 8, 9 and 10.
 ///
 /// ```
 /// use sheet::{RenderOptions, append_vert_row};

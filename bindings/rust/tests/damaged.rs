@@ -3,7 +3,7 @@
 
 mod common;
 
-use common::{CELLS, M1, PLAIN, UNDER, bytes};
+use common::{CELLS, FIRST, HANGING, M1, PLAIN, UNDER, bytes};
 use sheet::{
     Answer, Refusal, append_columns_with_borders, append_subrender, append_vert_row, render,
 };
@@ -137,6 +137,17 @@ fn every_byte_of_a_job_changed() {
 #[test]
 fn every_byte_of_a_row_changed() {
     let (sheet, cells) = (bytes(UNDER), bytes(CELLS));
+    for sheet in changed(&sheet) {
+        all_rows(&sheet, &cells);
+    }
+    for cells in changed(&cells) {
+        all_rows(&sheet, &cells);
+    }
+}
+
+#[test]
+fn every_byte_of_a_spanning_row_changed() {
+    let (sheet, cells) = (bytes(HANGING), bytes(FIRST));
     for sheet in changed(&sheet) {
         all_rows(&sheet, &cells);
     }

@@ -1,4 +1,4 @@
-//! What the tests share: bytes in hexadecimal, and M1 and M11 of the marked table.
+//! What the tests share: bytes in hexadecimal, M1 and M11 of the marked table, and a row with a cell that spans rows.
 
 #![allow(dead_code)]
 
@@ -17,6 +17,15 @@ pub const CELLS: &str = "43 00 0A 02 4C 00 06 53 00 03 00 61 62 43 00 0A 02 4C 0
 /// M11's answer.
 pub const JOINED: &str = "48 00 02 00 03 42 00 06 00 00 00 02 00 00 4C 00 0B 53 00 08 00 61 62 E2 \
     94 82 63 64 42 00 06 00 00 00 01 00 00";
+
+/// A cell of two rows, "a", "b" and "c", beside the cell "x".
+pub const FIRST: &str = "4B 00 1A 01 02 4C 00 05 53 00 02 01 61 4C 00 05 53 00 02 01 62 4C 00 05 53 \
+    00 02 01 63 43 00 09 01 4C 00 05 53 00 02 00 78";
+
+/// What they make under a border of three Horiz: ─┬─, a│x, b└─, and "c" hangs on.
+pub const HANGING: &str = "48 00 02 00 03 42 00 04 00 00 02 00 4C 00 0D 53 00 02 01 61 53 00 05 00 E2 \
+    94 82 78 47 00 0D 00 00 03 00 0A 00 00 00 53 00 02 01 62 56 00 0C 00 00 01 01 4C 00 05 53 00 \
+    02 01 63";
 
 /// Width 5, pad off, borders on, annotation 0.
 pub const PLAIN: RenderOptions = RenderOptions {
