@@ -1,29 +1,40 @@
-//! Wraps the cells of a picking list, lays them onto a sheet row by row, and prints the sheet: the texts by [`sheet::render`],
-//! the rows by [`sheet::append_columns_with_borders`], which joins their edges to the borders.
+//! Lays two tables onto sheets row by row and prints them: the texts are wrapped by [`sheet::render`], the rows laid by
+//! [`sheet::append_columns_with_borders`], which joins their edges to the borders, and [`sheet::append_subrender`] makes every
+//! line text, so that it can be printed. In the second table the label of a pallet stands beside the rows of its four bins.
 
-use sheet::{Refusal, RenderOptions, append_columns_with_borders, render};
+use sheet::{Refusal, RenderOptions, append_columns_with_borders, append_subrender, render};
 
-const WIDTHS: [u8; 3] = [16, 5, 8];
-const ROWS: [[&str; 3]; 3] = [
+const LIST_WIDTHS: [u8; 3] = [16, 5, 8];
+const LIST: [[&str; 3]; 3] = [
     ["Bolt M8 zinc, hexagon head", "200", "棚 07"],
     ["Café chair", "4", "棚 12"],
     ["ラベル 用紙", "1,000", "棚 03, top"],
 ];
-const MARKS: [&str; 12] = ["─", "┴", "┬", "┼", "│", "/", "┤", "├", "┌", "┐", "└", "┘"];
+
+const LABEL_WIDTH: u8 = 12;
+const LABEL: &str = "PALLET 0042 Osaka to Hamburg, upper deck, keep dry";
+const BIN_WIDTHS: [u8; 2] = [6, 16];
+const BINS: [[&str; 2]; 4] = [
+    ["Bin 11", "Bolt M8 zinc"],
+    ["Bin 12", "Café chair"],
+    ["Bin 13", "ラベル 用紙"],
+    ["Bin 14", "Washer M8"],
+];
+
+/// A sheet of one border without columns, which the first row makes as wide as it is.
+const BORDER: &[u8] = b"H\0\x02\0\x01B\0\x01\0";
+
+const OPTIONS: RenderOptions = RenderOptions {
+    width: 36,
+    pad: false,
+    borders: true,
+    annotation: 0,
+};
 
 /// A field: a letter, a length of two bytes, and that many bytes.
 fn field(letter: u8, content: &[u8]) -> Vec<u8> {
     let length = u16::try_from(content.len()).expect("a field has at most 65,535 bytes");
     [&[letter], &length.to_be_bytes()[..], content].concat()
-}
-
-/// A cell: its width, and the lines that its text wraps to, which are a sheet's lines without the head.
-fn cell(width: u8, text: &str) -> Result<Vec<u8>, Refusal> {
-    let text = [&[0, 0, 0], text.as_bytes()].concat();
-    let job = [field(b'W', &[width, 0, 0]), field(b'T', &text)].concat();
-    let mut store = [0; 4096];
-    let length = render(&job, &mut store)?;
-    Ok(field(b'C', &[&[width], &store[5..length]].concat()))
 }
 
 /// The fields of some bytes: their letters and contents.
@@ -36,44 +47,72 @@ fn fields(mut bytes: &[u8]) -> impl Iterator<Item = (u8, &[u8])> {
     })
 }
 
-/// A line of a sheet as a terminal shows it.
-fn shown(letter: u8, content: &[u8]) -> String {
-    if letter == b'B' {
-        return content[1..]
-            .iter()
-            .map(|&s| MARKS[usize::from(s)])
-            .collect();
+/// The lines that a text wraps to: a sheet's without its head.
+fn wrapped(width: u8, text: &str) -> Result<Vec<u8>, Refusal> {
+    let text = [&[0, 0, 0], text.as_bytes()].concat();
+    let job = [field(b'W', &[width, 0, 0]), field(b'T', &text)].concat();
+    let mut store = [0; 4096];
+    let length = render(&job, &mut store)?;
+    Ok(store[5..length].to_vec())
+}
+
+/// The C fields of a row: their widths and wrapped texts.
+fn cells<const N: usize>(widths: [u8; N], texts: [&str; N]) -> Result<Vec<u8>, Refusal> {
+    let cell = |(width, text)| {
+        wrapped(width, text).map(|lines| field(b'C', &[&[width], &lines[..]].concat()))
+    };
+    let cells = std::iter::zip(widths, texts).map(cell);
+    Ok(cells.collect::<Result<Vec<_>, _>>()?.concat())
+}
+
+/// The sheet with a row. What hangs on below it stands at the end of the sheet, as V fields, for the next row.
+fn with_row(sheet: &[u8], cells: &[u8]) -> Result<Vec<u8>, Refusal> {
+    let mut store = vec![0; 65_536];
+    let length = append_columns_with_borders(OPTIONS, sheet, cells, false, &mut store)?;
+    store.truncate(length);
+    Ok(store)
+}
+
+/// The picking list.
+fn list() -> Result<Vec<u8>, Refusal> {
+    let mut sheet = BORDER.to_vec();
+    for row in LIST {
+        sheet = with_row(&sheet, &cells(LIST_WIDTHS, row)?)?;
     }
-    let texts = fields(content).filter(|&(letter, _)| letter == b'S');
-    texts
-        .map(|(_, s)| String::from_utf8_lossy(&s[1..]))
-        .collect()
+    Ok(sheet)
+}
+
+/// The pallet: a K cell of four rows beside the first bin, and under it, where it hangs, an empty C cell of its width.
+fn pallet() -> Result<Vec<u8>, Refusal> {
+    let rows = BINS.len() as u8;
+    let label = [&[LABEL_WIDTH, rows], &wrapped(LABEL_WIDTH, LABEL)?[..]].concat();
+    let mut first = field(b'K', &label);
+    let mut sheet = BORDER.to_vec();
+    for bin in BINS {
+        let row = [first, cells(BIN_WIDTHS, bin)?].concat();
+        sheet = with_row(&sheet, &row)?;
+        first = field(b'C', &[LABEL_WIDTH]);
+    }
+    Ok(sheet)
+}
+
+/// Prints a sheet. As a guest behind an empty prefix each of its borders becomes text, with holes or without.
+fn print(sheet: &[u8]) -> Result<(), Refusal> {
+    let empty = field(b'H', &[0, 0]);
+    let mut store = vec![0; 65_536];
+    let length = append_subrender(OPTIONS, &empty, sheet, &field(b'P', b""), true, &mut store)?;
+    for (_, line) in fields(&store[5..length]) {
+        let texts = fields(line).filter(|&(letter, _)| letter == b'S');
+        let shown: String = texts
+            .map(|(_, s)| String::from_utf8_lossy(&s[1..]))
+            .collect();
+        println!("{shown}");
+    }
+    Ok(())
 }
 
 fn main() -> Result<(), Refusal> {
-    let width = WIDTHS.iter().sum::<u8>() + 2;
-    let border = [0; 32];
-    let mut sheet = [
-        field(b'H', &[0, 1]),
-        field(b'B', &border[..=usize::from(width)]),
-    ]
-    .concat();
-    let options = RenderOptions {
-        width,
-        pad: false,
-        borders: true,
-        annotation: 0,
-    };
-    for row in ROWS {
-        let cells = std::iter::zip(WIDTHS, row).map(|(width, text)| cell(width, text));
-        let cells = cells.collect::<Result<Vec<_>, _>>()?.concat();
-        let mut store = vec![0; 65_536];
-        let length = append_columns_with_borders(options, &sheet, &cells, false, &mut store)?;
-        store.truncate(length);
-        sheet = store;
-    }
-    for (letter, content) in fields(&sheet[5..]) {
-        println!("{}", shown(letter, content));
-    }
-    Ok(())
+    print(&list()?)?;
+    println!();
+    print(&pallet()?)
 }
