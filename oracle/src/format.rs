@@ -26,8 +26,8 @@ pub enum Rules {
 }
 
 impl Rules {
-    /// The rules of whatever does not choose: of the sets and stored files of document 01.
-    pub const STORED: Rules = Rules::Base;
+    /// The rules of whatever does not choose: of the stored files and of the calls today.
+    pub const STORED: Rules = Rules::Spans;
 }
 
 use Refusal::CrookedRecord;

@@ -43,6 +43,14 @@ impl Drawn {
         }
     }
 
+    /// The rules whose letters damage writes; a job has document 01's.
+    fn letters(self, input: Input) -> Rules {
+        match input {
+            Input::Job => Rules::Base,
+            _ => self.rules(),
+        }
+    }
+
     fn turns(self) -> &'static [Input] {
         match self {
             Drawn::Base => &TURNS,
@@ -142,7 +150,7 @@ fn candidate(rng: &mut Rng, drawn: Drawn, input: Input, wanted: u8) -> Vec<u8> {
         (Input::Prefixes, _) => prefixes(rng, wanted),
     };
     if wanted == 1 {
-        damage::bytes(rng, drawn.rules(), &mut bytes);
+        damage::bytes(rng, drawn.letters(input), &mut bytes);
     }
     bytes
 }

@@ -78,7 +78,7 @@ fn damaged(rng: &mut Rng) -> Vec<u8> {
     }
     let mut bytes = write_job(&job);
     for _ in 0..rng.below(3) {
-        damage::bytes(rng, Rules::STORED, &mut bytes);
+        damage::bytes(rng, Rules::Base, &mut bytes); // a job has document 01's letters
     }
     bytes
 }
