@@ -1,9 +1,11 @@
 //! Replays what `oracle vectors` writes through these calls and compares number, length and every byte of the store.
-//! The records are described in oracle/README.md. Prints how many there were and how many differ:
+//! The records are described in oracle/README.md. Prints how many there were, how many of them have each number, and how
+//! many differ; on standard error, which they are, counted from 1:
 //!
-//!     oracle vectors rows 11 1000000 65536 | cargo run --release --example replay
+//!     oracle vectors spans-chain 11 1000000 65536 | cargo run --release --example replay
 
 use sheet::{Answer, RenderOptions};
+use std::collections::BTreeMap;
 use std::io::{self, BufReader, Read};
 use std::process::ExitCode;
 
@@ -41,13 +43,13 @@ fn call(kind: u8, head: &[u8; 5], inputs: &[Vec<u8>], store: &mut [u8]) -> Answe
     }
 }
 
-/// Does the call give the record's answer?
-fn agrees(
+/// The record's number, if the call gives its answer.
+fn agreed(
     from: &mut impl Read,
     kind: u8,
     inputs: &mut [Vec<u8>; 3],
     store: &mut Vec<u8>,
-) -> io::Result<bool> {
+) -> io::Result<Option<usize>> {
     let mut head = [0; 5];
     from.read_exact(&mut head)?;
     let count = [1, 3, 2, 2][kind as usize];
@@ -67,21 +69,25 @@ fn agrees(
     };
     let rest = if refusal == 0 { FILL } else { 0 };
     let same = store.starts_with(&sheet) && store[sheet.len()..].iter().all(|b| *b == rest);
-    Ok(said == (refusal, length) && same)
+    Ok((said == (refusal, length) && same).then_some(refusal))
 }
 
 fn main() -> ExitCode {
     let mut from = BufReader::new(io::stdin().lock());
     let (mut records, mut differences) = (0u64, 0u64);
+    let mut numbers = BTreeMap::<usize, u64>::new();
     let (mut inputs, mut store) = (<[Vec<u8>; 3]>::default(), Vec::new());
     while let Ok(kind) = number(&mut from, 1) {
         records += 1;
-        match agrees(&mut from, kind as u8, &mut inputs, &mut store) {
-            Ok(true) => {}
-            _ => differences += 1,
+        match agreed(&mut from, kind as u8, &mut inputs, &mut store) {
+            Ok(Some(number)) => *numbers.entry(number).or_default() += 1,
+            _ => {
+                differences += 1;
+                eprintln!("record {records}, of kind {kind}, differs");
+            }
         }
     }
-    println!("records: {records}, differences: {differences}");
+    println!("records: {records}, differences: {differences}, numbers: {numbers:?}");
     if differences == 0 {
         ExitCode::SUCCESS
     } else {
