@@ -3,7 +3,7 @@
 
 use crate::workloads::Input;
 use oracle::call::{self, Row, Sheet};
-use oracle::format::Line;
+use oracle::format::{Contents, Line};
 use oracle::layout::{Block, Columns};
 use std::hint::black_box;
 use std::time::{Duration, Instant};
@@ -24,7 +24,7 @@ impl Side {
 }
 
 /// The store that our side writes to.
-pub const STORE: usize = 1 << 17;
+pub const STORE: usize = 1 << 21;
 
 /// Runs one call, and gives the time of what is measured.
 pub fn run(side: Side, input: &Input, store: &mut [u8]) -> Duration {
@@ -75,7 +75,7 @@ fn rust(input: &Input) -> Duration {
             collapse,
         } => {
             let call = Columns::read(&of(options), sheet, cells, *collapse).expect("a row");
-            timed(|| -> Vec<Line<String>> { call.run() })
+            timed(|| -> Contents<String> { call.run() })
         }
     }
 }

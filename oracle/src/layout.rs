@@ -3,7 +3,7 @@
 
 use crate::call::Sheet;
 use crate::checks;
-use crate::format::{self, Job, Line, Refusal, Rules};
+use crate::format::{self, Contents, Job, Line, Refusal, Rules};
 use crate::render::text_renderer::door;
 use std::str;
 
@@ -41,8 +41,8 @@ impl Columns {
         Ok(Columns(door::Columns::new(sheet, &old, &cells, collapse)))
     }
 
-    /// The sheet's lines with the row; the call consumes its renderers.
-    pub fn run(self) -> Vec<Line<String>> {
-        self.0.run().lines
+    /// The sheet's lines with the row, and what hangs on; the call consumes its renderers.
+    pub fn run(self) -> Contents<String> {
+        self.0.run()
     }
 }
