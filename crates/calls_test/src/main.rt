@@ -4,30 +4,7 @@
 // for kind 1 and two else, each a length of three bytes and that many bytes; the store's length in three bytes; the number; a length of
 // four bytes; and, if the number is 0, the sheet. The store is filled with EE before the call, and number, length and every byte of the
 // store are compared. An input, a sheet or a store of more than 262,144 bytes is not read; the five spaces take 1,310,720 bytes of stack.
-// The committed file, crates/calls_test/stdin, has stores of at most 65,536 bytes, but for three records at the limits. It was made by
-// these, in order:
-//   oracle vectors short 0 12768          jobs: every text of up to 2 characters
-//   oracle vectors short 1 20077          every seventh of up to 3
-//   oracle vectors random 3 3000 300
-//   oracle vectors random 1800 500 20000  some with 4,096 and 4,097 units
-//   oracle vectors damaged 4 1600 300
-//   oracle vectors rows 1 6600 240        calls on a sheet
-//   oracle vectors rows 2 1000 1500
-//   oracle vectors rows 129 400 12000     some with 16 and 17 cells
-//   oracle vectors rows-damaged 4 2000 300
-// and `oracle vectors rows S 1`, one record each, at the limits of refusals 7 and 9, for these S in order:
-//   2633   kind 1, a line of 65,535 bytes
-//   7617   of 65,536: 7
-//   2104   a line too long after the last that a sheet can have: 7 before 9
-//   13492  65,536 lines: 9
-//   29     kind 2, 65,537 lines: 9
-//   55881  a row of 65,536 bytes, with a text after it: 7
-//   8761   the border below is made text, too long: 7
-//   47101  the border above merges to 65,536 bytes: 7
-//   19232  it would, but there is none: 6 before 7
-//   58405  it merges to 65,535 bytes
-//   2118   kind 3, 65,537 lines: 9
-//   11909  65,535 lines
+// The committed file, crates/calls_test/stdin, was made by oracle/stored; its stores have at most 65,536 bytes, but for records at the limits.
 use append_columns::append_columns_with_borders;
 use append_subrender::append_subrender;
 use append_subrender::append_vert_row;

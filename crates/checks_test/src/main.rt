@@ -1,7 +1,7 @@
 // Replays stored inputs with the refusal that each must get. The file on standard input is made by
 // `oracle checks` and is a list of records: a kind byte (0 job, 1 sheet, 2 list of cells, 3 list of
 // prefixes), a length of three bytes, the high byte first, that many bytes, and the number. The committed file,
-// crates/checks_test/stdin, was made by `oracle checks 7 10001 1000`, without its one cell of letter K, and `oracle checks spans 7 4000 1000`.
+// crates/checks_test/stdin, was made by oracle/stored.
 use checks::cells::cells_refusal;
 use checks::sheet::sheet_refusal;
 use fields::field::wide;
