@@ -105,8 +105,9 @@ uint8_t sheet_append_vert_row(const uint8_t *sheet, size_t sheet_length,
  * - V fields stay until their rows are laid, also past the end of a table: the next row on that sheet takes them in. To end
  *   a table early, cut the sheet's bytes at the first V field; H counts the lines alone and stays right.
  * - The lines of a K cell are filled to its width in its first row; a V field's are laid as they stand.
- * - A G field in a guest or a cell becomes text of the call's annotation: its holes' texts show, their names are gone.
- *   With `pad` the border below a row becomes text too; there names and annotations stay.
+ * - A border in a guest or in a line of the row, with holes or without, becomes text of the call's annotation: the holes'
+ *   texts show, their names are gone. Names and annotations stay where a cell's border stands in the border below, as
+ *   holes, and where with `pad` the border below becomes text.
  * - To print a sheet, give it to sheet_append_subrender as the guest of a sheet without lines, with one empty prefix that
  *   repeats: each line of the answer is a text, the borders too.
  * Refusal 10 is given where
