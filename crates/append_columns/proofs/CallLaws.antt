@@ -25,10 +25,10 @@ use Rattle.rows.proofs.Columns.{columns-flat, six-flat}
 use Rattle.bodies.specs.Walk.{LastLine, none-there, last-there, LastIn, FindsLast}
 use Rattle.checks.specs.Split.{SheetAt, FindsHanging}
 use Rattle.checks.proofs.Passing.{SheetPasses, sheet-passes, CellsPass, cells-pass}
-use Rattle.checks.proofs.Verdicts.{columnsNumber, afterColumns, columns-refused, columns-goes, first-none}
+use Rattle.checks.proofs.Verdicts.{columnsNumber, afterColumns, columns-refused, columns-goes, first-none, refusal-same}
 use Rattle.append_columns.specs.Old.{EndsInBorder}
 use Rattle.append_columns.specs.Lay.{OldIn, InputsAre, Lays}
-use Rattle.append_columns.proofs.LayLaws.{refusal-same, judged}
+use Rattle.append_columns.proofs.LayLaws.{judged}
 
 -- ---- places
 

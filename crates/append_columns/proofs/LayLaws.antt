@@ -20,6 +20,7 @@ use Rattle.fields.specs.Spans.{RenderLine, border, Hanging, Sheet, sheetOf, Cel
 use Rattle.rows.specs.SubRenderer.{padded, onLast, endsInBorder, ifDrawn}
 use Rattle.rows.specs.Columns.{Slot, slot, cellSlots, hungSlot, rowSlots, rowTotal, columnOf, columnsHeight, columnLines, linesMisfit, anyPast, holesOf, cutAll, hangsOf, borderAbove, borderBelow, Column, rowMisfit, columnsRow, columnsMisfit, flatColumns, anyTop}
 use Rattle.rows.specs.Answer.{Verdict, refused, sheet, give, finished}
+use Rattle.checks.proofs.Verdicts.{refusal-same}
 use Rattle.slots.specs.Seats.{SlotsLeft, Begins}
 use Rattle.slots.specs.declared.seat.Slots.{Slots}
 use Rattle.seats.specs.Keep.{RowKept, KeepsSeats}
@@ -215,11 +216,6 @@ module _ (o : RenderOptions) (sheet : List ℕ) (from last : ℕ) (joined : Bool
       ∙ ap (λ (t : Sheet). give (finished t) store) (flat-is old cs i r)
 
 -- ---- the row past refusals 1 to 3
-
--- the two ways to say a refusal
-pub refusal-same : (n : ℕ) (st : List ℕ) → base-give (base-refused n) st ≡ give (refused n) st
-unfolding base-give give
-refusal-same n st = refl
 
 -- 6 by one test, 10 by another, or what follows
 abbrev pub judged : Bool → Bool → Verdict → Verdict

@@ -29,7 +29,8 @@ use Rattle.extend_lines.proofs.Emitting.{emitted-none}
 use Rattle.append_subrender.specs.Misfit.{guestMisfit, cellsMisfit, TellsGuest, TellsCells}
 use Rattle.append_subrender.specs.Prefixes.{AddsGuest, AddsRuleIf, AddsCells}
 use Rattle.append_subrender.proofs.Pairing.{subrender-lines, vert-row-lines}
-use Rattle.append_subrender.proofs.Refusing.{subrenderNumber, SubrenderPasses, subrender-refused, vertRowNumber, VertRowPasses, vert-row-refused}
+use Rattle.checks.proofs.Verdicts.{subrenderNumber, subrender-refused, vertRowNumber, vert-row-refused, refusal-same}
+use Rattle.append_subrender.proofs.Refusing.{SubrenderPasses, VertRowPasses}
 
 -- ---- numbers
 
@@ -53,11 +54,6 @@ cells-few bs cs e =
         go false k e = absurd (let z : _≡_ {A = ℕ} 0 1 = cc in omega arith)
 
 -- ---- refusals
-
--- the two ways to say one
-refusal-same : (n : ℕ) (st : List ℕ) → base-give (base-refused n) st ≡ give (refused n) st
-unfolding base-give give
-refusal-same n st = refl
 
 -- lines that are handed on with what hangs, or refusal 10
 handed : (vs : List Hanging) (b : Bool) (ls : List RenderLine) → b ≡ false → orMisfit (handedOn vs (noneIf b ls)) ≡ finished (sheetOf ls vs)

@@ -11,11 +11,12 @@ use lib.Dec.{leb, eqb}
 use Rattle.characters.specs.If.{if_then_else_}
 use Rattle.fields.specs.Field.{all}
 use Rattle.fields.specs.First.{firstOf, refusalOf, unless}
+use Rattle.fields.specs.Answer.{refused as base-refused, give as base-give}
 use Rattle.fields.specs.Sheet.{readPrefixes}
 use Rattle.fields.specs.Refusals.{prefixesRefusal}
 use Rattle.fields.specs.Text.{readableText}
 use Rattle.fields.proofs.First.{one-first, first-one}
-use Rattle.rows.specs.Answer.{widthRefusal, Verdict, refused, sheetRefusal, orMisfit, handedOn, noWidthHung, noWidth, subrenderVerdict, columnsVerdict, vertRowVerdict}
+use Rattle.rows.specs.Answer.{widthRefusal, Verdict, refused, give, sheetRefusal, orMisfit, handedOn, noWidthHung, noWidth, subrenderVerdict, columnsVerdict, vertRowVerdict}
 use Rattle.rows.specs.declared.RenderOptions.{RenderOptions}
 use Rattle.fields.specs.Spans.{Sheet, Cell, readSheet, readCells, readPlainCells, wideHanging, wide, readableSheet, readableCell}
 use Rattle.rows.specs.SubRenderer.{append-subrender, append-columns-with-borders, noBorderAbove, append-vert-row}
@@ -261,3 +262,10 @@ first-none (suc a) (suc b) e = absurd (go (leb a b) e)
     go : (t : Bool) → (if t then suc a else suc b) ≡ 0 → ⊥
     go true e = omega arith
     go false e = omega arith
+
+-- ---- what a refusal says
+
+-- A call that refuses answers as the verdict says.
+pub refusal-same : (n : ℕ) (st : List ℕ) → base-give (base-refused n) st ≡ give (refused n) st
+unfolding base-give give
+refusal-same n st = refl

@@ -8,7 +8,8 @@ use Rattle.fields.specs.First.{firstOf}
 use Rattle.fields.specs.Sheet.{readPrefixes}
 use Rattle.fields.specs.Spans.{readSheet}
 use Rattle.checks.specs.Split.{SheetAt}
-use Rattle.append_subrender.proofs.Refusing.{subrenderNumber, SubrenderPasses, subrender-passes}
+use Rattle.checks.proofs.Verdicts.{subrenderNumber}
+use Rattle.append_subrender.proofs.Refusing.{SubrenderPasses, subrender-passes}
 use Rattle.append_subrender.proofs.Calling.{none-bounds, subrender-refuses, subrender-misfits, subrender-gives}
 use borrow.Author.Needs.{needs}
 use Rattle.append_subrender.proofs.append_subrender.Statement.{statement}

@@ -7,7 +7,8 @@ use denote.Ref.{now}
 use Rattle.fields.specs.First.{firstOf}
 use Rattle.fields.specs.Spans.{readSheet, readPlainCells}
 use Rattle.checks.specs.Split.{SheetAt}
-use Rattle.append_subrender.proofs.Refusing.{vertRowNumber, VertRowPasses, vert-row-passes}
+use Rattle.checks.proofs.Verdicts.{vertRowNumber}
+use Rattle.append_subrender.proofs.Refusing.{VertRowPasses, vert-row-passes}
 use Rattle.append_subrender.proofs.Calling.{none-bounds, cells-few, vert-row-refuses, vert-row-misfits, vert-row-gives}
 use borrow.Author.Needs.{needs}
 use Rattle.append_subrender.proofs.append_vert_row.Statement.{statement}
