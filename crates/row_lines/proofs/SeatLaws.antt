@@ -36,7 +36,8 @@ use Rattle.tagged_line.specs.declared.line.Line.{Line}
 use Rattle.bodies.proofs.FieldLaws.{FoundAt}
 use Rattle.bodies.proofs.LineLaws.{no-lines, first-line, line-broken, line-end}
 use Rattle.bodies.proofs.BodyLaws.{line-border, line-text}
-use Rattle.row_lines.specs.Seat.{AddsCellText, AddsPattern, AddsBorder, leavesPattern, Collapsed, AddsSeat, AddsEdge, OpensSeat}
+use Rattle.row_lines.specs.Seat.{AddsCellText, AddsPattern, AddsBorder, leavesPattern, Collapsed, AddsSeat, FindsText, AddsEdge, OpensSeat}
+use Rattle.row_lines.specs.declared.seat.TextAt.{TextAt}
 use Rattle.row_lines.specs.declared.seat.Added.{Added}
 
 -- ---- a text of a cell
@@ -265,6 +266,16 @@ found-short r letter start next e h = subst Short e h
 
 pub content-short : (s : List ℕ) (at letter start next : ℕ) → FoundAt s at letter start next → next < start + 65536 → length (part start next s) < 65536
 content-short s at letter start next f h = omega (arith, part-length start next s (f .inside), f .start-is, f .next-is)
+
+-- ---- a text line at a place
+
+pub text-none : (s : List ℕ) (at end : ℕ) (r : TextAt) → r .found ≡ false → FindsText s at end r
+text-none s at end r e k = absurd (let z : _≡_ {A = Bool} true false = sym k ∙ e in let y : _≡_ {A = ℕ} 0 1 = cc in omega arith)
+
+pub text-found : (s : List ℕ) (at end letter start next : ℕ) (f : Field) → at < end → f ≡ fieldAt at (drop at s) → f ≡ At letter start next → Short f → letter ≡ 0x4C
+    → FindsText s at end (record { found = true; start = start; next = next })
+text-found s at end letter start next f h e a short l k =
+    record { before = h; field = sym e ∙ a ∙ ap (λ (x : ℕ). At x start next) l; short = found-short f letter start next a short }
 
 -- a seat of the row
 module _ (out out′ : List ℕ) (p : Line) (r : Added) (s : RenderOptions) (bytes : List ℕ) (at end w to : ℕ) (collapse : Bool) where

@@ -4,10 +4,11 @@ use mathlib.Core.Path.{_≡_}
 use mathlib.Core.Bool.{Bool, true, false, not, _&&_}
 use mathlib.Core.Option.{some, none}
 use mathlib.Core.List.{List}
-use Prim.Native.Nat.{ℕ, zero, suc, _-_, _≤_}
+use Prim.Native.Nat.{ℕ, zero, suc, _+_, _-_, _≤_, _<_}
 use lib.Dec.{eqb}
-use lib.ListN.{replicate}
-use Rattle.fields.specs.Field.{whole, all}
+use lib.ListN.{replicate, drop}
+use Rattle.fields.specs.Field.{whole, fieldAt, all}
+use Rattle.fields.specs.declared.field.Field.the-variants.{At}
 use Rattle.fields.specs.Sheet.{Piece, readablePiece}
 use Rattle.fields.specs.Widths.{width}
 use Rattle.borders.specs.BorderHoriz.{stretch-to, drawn}
@@ -22,6 +23,7 @@ use Rattle.tagged_line.specs.Held.{LineGrown, Held}
 use Rattle.tagged_line.specs.Pieces.{PiecesOf}
 use Rattle.tagged_line.specs.declared.line.Line.{Line}
 use Rattle.row_lines.specs.declared.seat.Added.{Added}
+use Rattle.row_lines.specs.declared.seat.TextAt.{TextAt}
 
 -- the most bytes and the most columns that a seat adds to a line
 abbrev pub seatMost : ℕ
@@ -83,6 +85,16 @@ pub record SeatAdded (out : List ℕ) (p : Line) (s : RenderOptions) (bytes : Li
 abbrev pub AddsSeat : List ℕ → Line → RenderOptions → List ℕ → ℕ → ℕ → ℕ → ℕ → Bool → List ℕ → Added → Type 0
 AddsSeat out p s bytes at end width to collapse out′ r =
     (c : Column) → LeftAt bytes at end width to collapse c → SeatAdded out p s bytes end width to collapse out′ r c
+
+-- a text line that stands at a place, before the end of a seat's lines
+pub record TextIs (s : List ℕ) (at end : ℕ) (r : TextAt) : Type 0 where
+  pub before : at < end
+  pub field : fieldAt at (drop at s) ≡ At 0x4C (r .start) (r .next)
+  pub short : r .next < r .start + 65536
+
+-- `text_at`
+abbrev pub FindsText : List ℕ → ℕ → ℕ → TextAt → Type 0
+FindsText s at end r = r .found ≡ true → TextIs s at end r
 
 -- in the sheet or in the cells
 abbrev pub AddsKept : List ℕ → Line → RenderOptions → List ℕ → List ℕ → Bool → ℕ → ℕ → ℕ → ℕ → Bool → List ℕ → Added → Type 0

@@ -12,10 +12,11 @@ use tagged_line::line::push_str;
 use tagged_line::line::push_ws;
 use tagged_line::piece::add_pieces;
 ghost use mathlib.Core.Path.{_≡_};
+ghost use mathlib.Core.Bool.{false};
 ghost use Prim.Native.Nat.{_<_};
 ghost use lib.ListN.{length};
 ghost use Rattle.tagged_line.specs.Held.{Within, LineGrown};
-ghost use Rattle.row_lines.specs.Seat.{seatMost, AddedIn, AddsCellText, AddsPattern, AddsBorder, leavesPattern, AddsSeat, AddsKept, AddsEdge, OpensSeat};
+ghost use Rattle.row_lines.specs.Seat.{seatMost, AddedIn, AddsCellText, AddsPattern, AddsBorder, leavesPattern, AddsSeat, FindsText, AddsKept, AddsEdge, OpensSeat};
 
 // A line with what a seat gave to it, and the place of the seat's next line.
 pub struct Added {
@@ -154,7 +155,53 @@ pub fn add_seat(
     }
 }
 
-// The same of a seat whose lines are in the sheet, if it hung, or else in the cells.
+// Whether a text line stands at a place, before the end of a seat's lines, and where its pieces begin and end.
+pub struct TextAt {
+    pub found: bool,
+    pub start: usize,
+    pub next: usize,
+}
+
+// No text line at a place.
+fn no_text(at: usize) -> TextAt
+    ensures { λ r. ⌜ r .found ≡ false ⌝ }
+{
+    TextAt {
+        found: false,
+        start: at,
+        next: at,
+    }
+}
+
+// The text line at a place, if one stands there.
+fn text_at(s: &[u8], at: usize, end: usize) -> TextAt
+    ensures { λ r. ⌜ FindsText (now (s .entry)) at end r ⌝ }
+{
+    if end <= at {
+        return no_text(at);
+    }
+    let f = field_at(s, at);
+    match f {
+        Field::At {
+            letter,
+            start,
+            next,
+        } => {
+            if letter == b'L' {
+                return TextAt {
+                    found: true,
+                    start,
+                    next,
+                };
+            }
+            no_text(at)
+        }
+        Field::Broken => no_text(at),
+        Field::End => no_text(at),
+    }
+}
+
+// The same of a seat whose lines are in the sheet, if it hung, or else in the cells, where most lines are texts.
 pub fn add_kept(
     out: &mut [u8],
     line: Line,
@@ -174,6 +221,15 @@ pub fn add_kept(
 {
     if hung {
         return add_seat(out, line, options, sheet, at, end, width, to, collapse);
+    }
+    let t = text_at(cells, at, end);
+    if t.found {
+        let start = t.start;
+        let next = t.next;
+        return Added {
+            line: add_cell_text(out, line, options, &cells[start..next], to),
+            next,
+        };
     }
     add_seat(out, line, options, cells, at, end, width, to, collapse)
 }
