@@ -45,7 +45,7 @@ pub fn piece_cols(letter: u8, content: &[u8]) -> usize
 }
 
 // The columns of a line's pieces.
-pub fn pieces_width(content: &[u8]) -> usize
+fn pieces_width(content: &[u8]) -> usize
     requires { ⌜ length (now content) < 65536 ⌝ }
     ensures { λ r. ⌜ r ≤ 2 * length (now (content .entry)) ⌝ }
     ensures { λ r. ⌜ CountsPieces (now (content .entry)) r ⌝ }
@@ -74,7 +74,7 @@ pub fn pieces_width(content: &[u8]) -> usize
 }
 
 // The column where the walk over a border of so many segments and its holes ends.
-pub fn walk_end(content: &[u8], holes: usize, end: usize) -> usize
+fn walk_end(content: &[u8], holes: usize, end: usize) -> usize
     requires { ⌜ (holes ≤ length (now content)) × (length (now content) < 65536) × (end < 2 ^ 18) ⌝ }
     ensures { λ r. ⌜ r ≤ end + 2 * length (now (content .entry)) ⌝ }
     ensures { λ r. ⌜ EndsAt (now (content .entry)) holes end r ⌝ }

@@ -1,4 +1,4 @@
 // The two borders of a row (request 2.1): joined at its inner edges, and merged with the first and the last borders of its cells.
 pub mod border;
-pub mod join;
-pub mod merge;
+mod join;
+mod merge;
