@@ -1,7 +1,7 @@
 // `append_columns_with_borders` (document 01, "Rows and blocks on a sheet", and request 2.1): a row of cells beside each other, among them
 // those that hang from the rows above; the border above it joined to their inner edges, the border below it likewise, with holes for the cells
 // that hang on, and with collapsing the cells' first and last borders merged into the two. No heap: the first 16 cells are kept in arrays, a
-// border is put together in 65,536 bytes of stack, and a line that comes where the border is in as many.
+// border is put together in 65,536 bytes of stack, and a line that comes where the border is in 65,538.
 mod below;
 mod lay;
 mod old;
