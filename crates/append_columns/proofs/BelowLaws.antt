@@ -33,7 +33,7 @@ use Rattle.long_borders.specs.Keeps.{Keeps}
 use Rattle.long_borders.proofs.Laws.{keeps-whole, keeps-fits, keeps-long}
 use Rattle.tagged_line.specs.declared.line.Line.{Line}
 use Rattle.extend_lines.specs.Emitted.{OneLineMore, Emitted, AddsTextLine, AddsBorder}
-use Rattle.extend_lines.specs.declared.lines.Lines.{Lines}
+use Rattle.extend_lines.specs.declared.line.Lines.{Lines}
 use Rattle.extend_lines.proofs.Emitting.{one-more, wrote-length, field-bytes}
 use Rattle.row_borders.specs.Border.{BordersBelow}
 use Rattle.row_fit.specs.Row.{anyHole}

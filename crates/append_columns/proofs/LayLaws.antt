@@ -36,7 +36,7 @@ use Rattle.row_lines.proofs.Growing.{or-first, or-second}
 use Rattle.overhang.specs.Hang.{HangsAll}
 use Rattle.overhang.proofs.SpentLaws.{every-row}
 use Rattle.extend_lines.specs.Emitted.{Emitted, InBounds, Closes}
-use Rattle.extend_lines.specs.declared.lines.Lines.{Lines}
+use Rattle.extend_lines.specs.declared.line.Lines.{Lines}
 use Rattle.append_columns.specs.Old.{OldAt, AddsOld}
 use Rattle.append_columns.specs.Below.{holesBelow, NextOrSame, RowBelow, AddsBelow}
 use Rattle.append_columns.specs.Lay.{RowAsked, Asks, InputsAre, RowIs, fullTotal, AddsAll, Lays}

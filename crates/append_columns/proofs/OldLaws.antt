@@ -32,7 +32,7 @@ use Rattle.long_borders.proofs.Laws.{keeps-fits, keeps-long}
 use Rattle.seats.specs.declared.keep.Kept.{Kept}
 use Rattle.row_borders.specs.Border.{BordersAbove}
 use Rattle.extend_lines.specs.Emitted.{Emitted, noLines, InBounds, OneLineMore, PutsBorder, CopiesLines}
-use Rattle.extend_lines.specs.declared.lines.Lines.{Lines}
+use Rattle.extend_lines.specs.declared.line.Lines.{Lines}
 use Rattle.extend_lines.proofs.Emitting.{emitted-none, one-more, field-bytes, wrote-length}
 use Rattle.append_columns.specs.Old.{EndsInBorder, PutsJoined, PutsPrev, AddsOld}
 

@@ -18,7 +18,7 @@ use Rattle.seats.specs.declared.keep.Kept.{Kept}
 use Rattle.row_fit.specs.Row.{anyHole}
 use Rattle.row_holes.specs.Row.{WideSeat, ShortSeat}
 use Rattle.extend_lines.specs.Emitted.{Emitted}
-use Rattle.extend_lines.specs.declared.lines.Lines.{Lines}
+use Rattle.extend_lines.specs.declared.line.Lines.{Lines}
 
 -- the holes in the border below a row of seats, so many lines down
 abbrev pub holesBelow : RenderOptions → Bool → ℕ → List Slot → List Hole

@@ -14,7 +14,7 @@ use Rattle.bodies.specs.Walk.{LastLine}
 use Rattle.seats.specs.Keep.{RowKept}
 use Rattle.seats.specs.declared.keep.Kept.{Kept}
 use Rattle.extend_lines.specs.Emitted.{Emitted}
-use Rattle.extend_lines.specs.declared.lines.Lines.{Lines}
+use Rattle.extend_lines.specs.declared.line.Lines.{Lines}
 
 -- `ends_in_border`
 abbrev pub EndsInBorder : List ℕ → ℕ → ℕ → Bool → Type 0

@@ -1,8 +1,8 @@
 // The border below the row, with the holes that the seats which hang on make in it. What a function here requires, its callers in this crate
 // show.
-use extend_lines::lines::Lines;
-use extend_lines::lines::add_border;
-use extend_lines::lines::add_text_line;
+use extend_lines::line::Lines;
+use extend_lines::line::add_border;
+use extend_lines::line::add_text_line;
 use fields::store::put_byte;
 use fields::store::put_bytes;
 use fields::store::put_head;

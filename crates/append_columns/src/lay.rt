@@ -2,7 +2,7 @@
 // callers in this crate show.
 use crate::below::add_below;
 use crate::old::add_old;
-use extend_lines::lines::close;
+use extend_lines::line::close;
 use fields::answer::Rendered;
 use fields::answer::refuse;
 use overhang::hang::hang_on;

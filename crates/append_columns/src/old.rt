@@ -1,9 +1,9 @@
 // The lines of the old sheet, the last of them joined to the row if it is a border. What a function here requires, its callers in this
 // crate show.
 use extend_lines::copy::copy_lines;
-use extend_lines::lines::Lines;
-use extend_lines::lines::no_lines;
-use extend_lines::lines::put_border;
+use extend_lines::line::Lines;
+use extend_lines::line::no_lines;
+use extend_lines::line::put_border;
 use fields::store::put_byte;
 use fields::store::put_bytes;
 use fields::store::put_head;

@@ -32,7 +32,7 @@ use Rattle.tagged_line.specs.Held.{Within, LineGrown, Held, Pushes, newLine}
 use Rattle.tagged_line.specs.Pieces.{PiecesOf, AddsPieces}
 use Rattle.tagged_line.specs.declared.line.Line.{Line}
 use Rattle.extend_lines.specs.Emitted.{InBounds, OneLineMore, LineBegun, Emitted, AddsTextLine}
-use Rattle.extend_lines.specs.declared.lines.Lines.{Lines}
+use Rattle.extend_lines.specs.declared.line.Lines.{Lines}
 use Rattle.extend_lines.proofs.Emitting.{held-new}
 use Rattle.append_subrender.specs.Misfit.{overlapping, guestMisfit, behindPrefix, behindPrefixes}
 use Rattle.append_subrender.specs.Prefixes.{Placed, current, Coming, Found, Steps, noPrefix, AddsPrefixed, AddsGuest}

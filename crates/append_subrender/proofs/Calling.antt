@@ -24,7 +24,7 @@ use Rattle.rows.specs.Columns.{noneIf}
 use Rattle.rows.specs.Answer.{Verdict, refused, give, finished, orMisfit, handedOn, subrenderAnswer, vertRowAnswer}
 use Rattle.checks.specs.Split.{SheetAt, FindsHanging}
 use Rattle.extend_lines.specs.Emitted.{noLines, InBounds, Emitted, CopiesLines, HandsOn}
-use Rattle.extend_lines.specs.declared.lines.Lines.{Lines}
+use Rattle.extend_lines.specs.declared.line.Lines.{Lines}
 use Rattle.extend_lines.proofs.Emitting.{emitted-none}
 use Rattle.append_subrender.specs.Misfit.{guestMisfit, cellsMisfit, TellsGuest, TellsCells}
 use Rattle.append_subrender.specs.Prefixes.{AddsGuest, AddsRuleIf, AddsCells}

@@ -22,7 +22,7 @@ use Rattle.rows.specs.declared.RenderOptions.{RenderOptions}
 use Rattle.rows.proofs.Lines.{text-width-nil, well-formed-nil}
 use Rattle.fields.proofs.Readings.{read-first, read-none}
 use Rattle.extend_lines.specs.Emitted.{InBounds, OneLineMore, Emitted, AddsBorder}
-use Rattle.extend_lines.specs.declared.lines.Lines.{Lines}
+use Rattle.extend_lines.specs.declared.line.Lines.{Lines}
 use Rattle.append_subrender.specs.Misfit.{overlapping, anyOverlapping, cellsMisfit, behindPrefix, behindPrefixes, cellLines}
 use Rattle.append_subrender.specs.Prefixes.{AddsPrefixed, AddsRule, ruleIf, AddsRuleIf, AddsCell, AddsCells}
 use Rattle.append_subrender.proofs.Pairing.{paired-on, paired-none, cells-on, cells-none, cells-misfit-on, three-lists}

@@ -17,7 +17,7 @@ use Rattle.rows.specs.declared.RenderOptions.{RenderOptions}
 use Rattle.rows.specs.SubRenderer.{later, padded, plainBorder}
 use Rattle.fields.specs.Spans.{RenderLine, readLine, readableLine, Cell, readPlainCell, readableCell}
 use Rattle.extend_lines.specs.Emitted.{Emitted}
-use Rattle.extend_lines.specs.declared.lines.Lines.{Lines}
+use Rattle.extend_lines.specs.declared.line.Lines.{Lines}
 use Rattle.append_subrender.specs.Misfit.{overlapping, anyOverlapping, guestMisfit, cellsMisfit, behindPrefix, behindPrefixes, cellLines}
 use Rattle.append_subrender.specs.declared.prefixed.Prefix.{Prefix}
 

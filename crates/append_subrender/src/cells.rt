@@ -1,8 +1,8 @@
 // Cells below each other. What a function here requires, its callers in this crate show.
 use crate::prefixed::add_prefixed;
 use borders::border::new_type;
-use extend_lines::lines::Lines;
-use extend_lines::lines::add_border;
+use extend_lines::line::Lines;
+use extend_lines::line::add_border;
 use fields::field::Field;
 use fields::field::field_at;
 use fields::field::wide;

@@ -1,6 +1,6 @@
 // A guest's lines behind their prefixes. What a function here requires, its callers in this crate show.
-use extend_lines::lines::Lines;
-use extend_lines::lines::add_text_line;
+use extend_lines::line::Lines;
+use extend_lines::line::add_text_line;
 use fields::field::Field;
 use fields::field::field_at;
 use fields::width::text_width;

@@ -2,6 +2,6 @@
 // hangs from a sheet (V). A check answers the number of the refusal that the input gets, or 0.
 pub mod cells;
 mod holed;
-mod lines;
+mod line;
 pub mod sheet;
 mod walk;

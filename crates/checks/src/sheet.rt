@@ -1,5 +1,5 @@
 // A sheet: one H field, then as many L, B and G fields as it says, then V fields (refusals 1, 2 and 3).
-use crate::lines::lines_refusal;
+use crate::line::lines_refusal;
 use crate::walk::Kind;
 use crate::walk::fields_refusal;
 use fields::field::Field;

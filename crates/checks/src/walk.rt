@@ -1,5 +1,5 @@
 // The walk over fields that hold lines: cells, C and K or C alone, and cells that hang, V (refusals 1, 2 and 3).
-use crate::lines::lines_refusal;
+use crate::line::lines_refusal;
 use fields::field::Field;
 use fields::field::field_at;
 use fields::field::first_of;

@@ -25,7 +25,7 @@ use Rattle.rows.proofs.Same.{line-same}
 use Rattle.tagged_line.specs.Pieces.{Copies}
 use Rattle.tagged_line.proofs.Laying.{content-size}
 use Rattle.extend_lines.specs.Emitted.{Emitted, InBounds, OneLineMore, CopiesLine, CopiesLines}
-use Rattle.extend_lines.specs.declared.lines.Lines.{Lines}
+use Rattle.extend_lines.specs.declared.line.Lines.{Lines}
 use Rattle.extend_lines.proofs.Emitting.{one-more, wrote-length, field-bytes}
 
 -- ---- one line

@@ -32,7 +32,7 @@ use Rattle.rows.specs.Answer.{refused, give, fits, fitsHanging, finished}
 use Rattle.tagged_line.specs.Held.{Held, Within, LineGrown, newLine, Pads, Draws}
 use Rattle.tagged_line.specs.declared.line.Line.{Line}
 use Rattle.extend_lines.specs.Emitted.{allFit, bodyBytes, Emitted, InBounds, LineBegun, noLines, FinishesLine, AddsTextLine, PutsBorder, AddsBorder, HandsOn, Stands, Finishes}
-use Rattle.extend_lines.specs.declared.lines.Lines.{Lines}
+use Rattle.extend_lines.specs.declared.line.Lines.{Lines}
 use Rattle.extend_lines.proofs.Handing.{overhang-same, overhang-fits}
 
 -- ---- the start

@@ -17,7 +17,7 @@ use Rattle.rows.specs.SubRenderer.{padded, plainBorder}
 use Rattle.rows.specs.Answer.{fits, fitsHanging, finished, give}
 use Rattle.tagged_line.specs.Held.{Held}
 use Rattle.tagged_line.specs.declared.line.Line.{Line}
-use Rattle.extend_lines.specs.declared.lines.Lines.{Lines}
+use Rattle.extend_lines.specs.declared.line.Lines.{Lines}
 
 -- ---- numbers
 

@@ -1,5 +1,5 @@
 // The old sheet's lines, and the cells that hang from it, copied as they stand.
-use crate::lines::Lines;
+use crate::line::Lines;
 use fields::field::Field;
 use fields::field::field_at;
 use fields::store::put_field;

@@ -3,4 +3,4 @@
 // 01, "Rows and blocks on a sheet", and request 2.1). The head's place is kept free, and the head comes last. The functions are for the
 // crates above: what they require, that lines and places stay in bounds, those show from the sizes of their inputs.
 pub mod copy;
-pub mod lines;
+pub mod line;

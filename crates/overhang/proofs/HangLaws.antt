@@ -26,7 +26,7 @@ use Rattle.bodies.specs.Walk.{SkipsTo}
 use Rattle.bodies.specs.declared.body.Body.{Body}
 use Rattle.bodies.proofs.BodyLaws.{column-readable, readable-drop}
 use Rattle.extend_lines.specs.Emitted.{Emitted, allFit, bodyBytes}
-use Rattle.extend_lines.specs.declared.lines.Lines.{Lines}
+use Rattle.extend_lines.specs.declared.line.Lines.{Lines}
 use Rattle.extend_lines.proofs.Emitting.{field-bytes}
 use Rattle.overhang.specs.Filled.{PutsLines}
 use Rattle.slots.specs.Seats.{SeatIn, source}

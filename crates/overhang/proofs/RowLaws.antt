@@ -20,7 +20,7 @@ use Rattle.slots.specs.declared.seat.Seat.{Seat}
 use Rattle.slots.specs.declared.seat.Slots.{Slots}
 use Rattle.slots.specs.declared.seat.Next.the-variants.{Is, NoMore}
 use Rattle.extend_lines.specs.Emitted.{Emitted, InBounds, allFit}
-use Rattle.extend_lines.specs.declared.lines.Lines.{Lines}
+use Rattle.extend_lines.specs.declared.line.Lines.{Lines}
 use Rattle.overhang.specs.Hang.{HangingIn, Narrow, HangsSeat, HangsAll}
 use Rattle.overhang.proofs.SpentLaws.{spent, spentAll, row-narrow, row-spent}
 

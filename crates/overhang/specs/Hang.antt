@@ -15,7 +15,7 @@ use Rattle.fields.specs.Places.{LinesAt, HungFrom, CellsFrom}
 use Rattle.slots.specs.Seats.{SeatIs}
 use Rattle.slots.specs.declared.seat.Seat.{Seat}
 use Rattle.extend_lines.specs.Emitted.{Emitted}
-use Rattle.extend_lines.specs.declared.lines.Lines.{Lines}
+use Rattle.extend_lines.specs.declared.line.Lines.{Lines}
 
 -- a V field stands at the front of a store, unless it is too long; the length of its content is right in any case
 pub record HangingStands (out : List ℕ) (v : Hanging) (out′ : List ℕ) (n : ℕ) : Type 0 where

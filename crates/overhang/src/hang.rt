@@ -2,7 +2,7 @@
 use crate::line::put_lines;
 use bodies::body::body_of;
 use bodies::walk::skip_lines;
-use extend_lines::lines::Lines;
+use extend_lines::line::Lines;
 use fields::store::put_byte;
 use fields::store::put_head;
 use fields::store::put_two;

@@ -44,7 +44,7 @@ use Rattle.tagged_line.specs.Held.{Held, Within, LineGrown, Draws, PushesSpaces
 use Rattle.tagged_line.specs.Pieces.{AddsPieces}
 use Rattle.tagged_line.specs.declared.line.Line.{Line}
 use Rattle.extend_lines.specs.Emitted.{LineBegun}
-use Rattle.extend_lines.specs.declared.lines.Lines.{Lines}
+use Rattle.extend_lines.specs.declared.line.Lines.{Lines}
 use Rattle.extend_lines.proofs.Emitting.{held-new}
 use Rattle.long_borders.specs.Keeps.{Near, Advances}
 use Rattle.long_borders.proofs.Laws.{near-low, near-sym}

@@ -20,7 +20,7 @@ use Rattle.slots.specs.declared.seat.Slots.{Slots}
 use Rattle.slots.specs.Seats.{SeatIs, SlotsLeft}
 use Rattle.tagged_line.specs.Held.{Held}
 use Rattle.tagged_line.specs.declared.line.Line.{Line}
-use Rattle.extend_lines.specs.declared.lines.Lines.{Lines}
+use Rattle.extend_lines.specs.declared.line.Lines.{Lines}
 use Rattle.long_borders.specs.Keeps.{Near}
 use Rattle.row_lines.specs.Seat.{AddsCellText}
 use Rattle.row_lines.specs.Row.{isLong}

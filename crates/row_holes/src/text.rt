@@ -3,7 +3,7 @@
 use bodies::body::body_of;
 use bodies::walk::skip_lines;
 use borders::draw::drawn_len;
-use extend_lines::lines::Lines;
+use extend_lines::line::Lines;
 use fields::field::Field;
 use fields::field::field_at;
 use holes::cols::line_cols;

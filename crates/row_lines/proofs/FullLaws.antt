@@ -16,7 +16,7 @@ use Rattle.slots.specs.declared.seat.Slots.{Slots}
 use Rattle.seats.specs.declared.keep.Kept.{Kept}
 use Rattle.tagged_line.specs.declared.line.Line.{Line}
 use Rattle.extend_lines.specs.Emitted.{InBounds, OneLineMore, Emitted, AddsTextLine}
-use Rattle.extend_lines.specs.declared.lines.Lines.{Lines}
+use Rattle.extend_lines.specs.declared.line.Lines.{Lines}
 use Rattle.extend_lines.proofs.Emitting.{one-more}
 use Rattle.row_lines.specs.Row.{StartsSeats, isLong, columnsFrom, LaysKept}
 use Rattle.row_lines.specs.Place.{down}

@@ -26,7 +26,7 @@ use Rattle.seats.specs.Keep.{slotAt}
 use Rattle.tagged_line.specs.Held.{Within, LineGrown, Held}
 use Rattle.tagged_line.specs.declared.line.Line.{Line}
 use Rattle.extend_lines.specs.Emitted.{InBounds, LineBegun}
-use Rattle.extend_lines.specs.declared.lines.Lines.{Lines}
+use Rattle.extend_lines.specs.declared.line.Lines.{Lines}
 use Rattle.row_lines.specs.Seat.{seatMost, LeftAt, AddsSeat, opened, OpensSeat}
 use Rattle.row_lines.specs.Row.{isLong, columnsFrom}
 use Rattle.row_lines.specs.Place.{down}

@@ -22,7 +22,7 @@ use Rattle.slots.specs.Seats.{source}
 use Rattle.tagged_line.specs.Held.{Within, LineGrown, newLine, Held}
 use Rattle.tagged_line.specs.declared.line.Line.{Line}
 use Rattle.extend_lines.specs.Emitted.{InBounds, LineBegun, Emitted}
-use Rattle.extend_lines.specs.declared.lines.Lines.{Lines}
+use Rattle.extend_lines.specs.declared.line.Lines.{Lines}
 use Rattle.extend_lines.proofs.Emitting.{held-new}
 use Rattle.row_lines.specs.Seat.{seatMost, AddedIn, LeftAt, AddsKept, opened, OpensSeat}
 use Rattle.row_lines.specs.Row.{columnAt, ColumnsAt, isLong, columnsFrom, LaysKept}

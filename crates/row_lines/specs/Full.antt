@@ -17,7 +17,7 @@ use Rattle.seats.specs.declared.keep.Kept.{Kept}
 use Rattle.tagged_line.specs.Held.{Held}
 use Rattle.tagged_line.specs.declared.line.Line.{Line}
 use Rattle.extend_lines.specs.Emitted.{Emitted}
-use Rattle.extend_lines.specs.declared.lines.Lines.{Lines}
+use Rattle.extend_lines.specs.declared.line.Lines.{Lines}
 use Rattle.row_lines.specs.Row.{ColumnsAt, isLong}
 use Rattle.row_lines.specs.Mark.{AllMarked}
 use Rattle.row_lines.specs.Rest.{columnsDown}

@@ -5,7 +5,7 @@ use crate::row::is_long;
 use crate::seat::Added;
 use crate::seat::add_seat;
 use crate::seat::open_seat;
-use extend_lines::lines::Lines;
+use extend_lines::line::Lines;
 use rows::RenderOptions;
 use slots::seat::Next;
 use slots::seat::Seat;

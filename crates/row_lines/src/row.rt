@@ -2,7 +2,7 @@
 use crate::seat::add_kept;
 use crate::seat::open_seat;
 use bodies::walk::past_top;
-use extend_lines::lines::Lines;
+use extend_lines::line::Lines;
 use rows::RenderOptions;
 use tagged_line::line::Line;
 use tagged_line::line::new_line;

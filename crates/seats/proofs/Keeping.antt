@@ -3,7 +3,7 @@
 use mathlib.Core.Path.{_≡_, refl, sym, ap, subst, _∙_}
 use mathlib.Core.Bool.{Bool, true, false}
 use mathlib.Core.List.{List, [], _∷_, _++_, append-assoc}
-use Prim.Native.Nat.{ℕ, _+_, _≤_, _<_}
+use Prim.Native.Nat.{ℕ, _+_, _*_, _≤_, _<_}
 use native.Mathlib.Omega.{arith}
 use native.Mathlib.Numerals.{add-one}
 use lib.Dec.{eqb}
@@ -11,11 +11,17 @@ use lib.ListN.{length, drop, getD, set, length-append, length-set, List·getD-ap
 use lib.Seq.{getD-set-same, getD-set-other, getD-at, drop-cons}
 use borrow.Author.Tests.{eqb-true, eqb-false}
 use Rattle.rows.specs.Columns.{Slot, slot}
-use Rattle.slots.specs.Seats.{SeatIs, SeatIn, SlotsIn, SlotsLeft, FoundIn, FindsNext}
+use Rattle.slots.specs.Seats.{SeatIs, SeatIn, SlotsIn, SlotsLeft, FoundIn, FindsNext, laidOf, passedOf, totalOf}
+use Rattle.fields.specs.Spans.{Cell}
+use Rattle.slots.specs.Cell.{CellIn, FindsCell}
+use Rattle.slots.specs.declared.cell.Laid.{Laid}
+use Rattle.slots.specs.declared.cell.Laid.the-variants.{Lies, NoCell}
+use Rattle.slots.proofs.SlotLaws.{without-hung}
+use Rattle.slots.proofs.SlotSteps.{cell-next, cell-end}
 use Rattle.slots.specs.declared.seat.Seat.{Seat}
 use Rattle.slots.specs.declared.seat.Slots.{Slots}
 use Rattle.slots.specs.declared.seat.Next.the-variants.{Is, NoMore}
-use Rattle.seats.specs.Keep.{KeptSeatIn, KeptSeat, SeatsIn, slotAt, SeatsAre, KeptIn, RowIn, RestIn, KeepsRest, KeepsSeats}
+use Rattle.seats.specs.Keep.{KeptSeatIn, KeptSeat, SeatsIn, slotAt, SeatsAre, KeptIn, RowIn, RestIn, KeepsRest, CellsAlone, cellsAhead, LaidAt, KeepsSeats}
 use Rattle.seats.specs.declared.keep.Kept.{Kept}
 
 -- ---- one entry more
@@ -184,6 +190,68 @@ fills cells sheet first ats es ws ts ns hs st k kept loop r f =
             ended = f (i .zs) total (i .ahead);
           },
     )
+
+-- ---- rows without V fields
+
+-- What `cell_at` finds at a position that 16 cells reach.
+pub laid-is : (cells : List ℕ) (cell pos : ℕ) (r : Laid) → pos < 4096 → CellIn cells cell r → FindsCell cells cell r → LaidAt cells cell pos r
+laid-is cells cell pos (Lies w n start nx) h i f = (h, i, f)
+laid-is cells cell pos NoCell h i f = λ cs g k. f cs g
+
+-- Its position and width are small.
+pub laid-low : (cells : List ℕ) (cell pos w n start nx : ℕ) → LaidAt cells cell pos (Lies w n start nx) → pos + w + 1 ≤ 4351
+laid-low cells cell pos w n start nx l = omega (arith, l .0, l .1 .0)
+
+-- None is kept at first.
+pub cells-start : (cells sheet ats es ws ts ns : List ℕ) (hs : List Bool) (first : Slots) → Sixteen ats es ws ts ns hs → SlotsIn cells sheet first
+    → CellsAlone sheet first → Loop cells sheet first ats es ws ts ns hs (cellsAhead first (first .cell) (first .pos)) 0
+cells-start cells sheet ats es ws ts ns hs first s i a =
+    record {
+      few = omega arith;
+      sizes = s;
+      seats-in = λ j h. absurd (omega (arith, h));
+      rest-in = record { pos-low = i .pos-low; total-low = i .total-low; few = omega arith; front-in = i .back-in; back-in = i .back-in };
+      keeping =
+          λ xs total l.
+          record {
+            ys = [];
+            zs = xs;
+            are = refl;
+            count = refl;
+            seats-are = λ j h. absurd (omega (arith, h));
+            ahead = without-hung cells sheet first (first .pos) (first .back) (first .back) xs total (a .none-ready) (a .none-hung) l;
+          };
+    }
+
+-- The next cell is kept behind the others.
+pub cell-on : (cells sheet : List ℕ) (first : Slots) (ats es ws ts ns : List ℕ) (hs : List Bool) (cell pos k w n start nx : ℕ)
+    → Loop cells sheet first ats es ws ts ns hs (cellsAhead first cell pos) k → CellsAlone sheet first → k < 16 → LaidAt cells cell pos (Lies w n start nx)
+    → Loop cells sheet first (set ats k start) (set es k nx) (set ws k w) (set ts k w) (set ns k n) (set hs k false) (cellsAhead first nx (pos + w + 1)) (k + 1)
+cell-on cells sheet first ats es ws ts ns hs cell pos k w n start nx loop a low l =
+    let st = cellsAhead first cell pos in
+    let f = cell-next cells sheet st w n start nx (loop .rest-in) refl (a .none-hung) (l .0) (l .1) (l .2) in
+    goes-on cells sheet first ats es ws ts ns hs st k (laidOf st pos w n start nx .front) (passedOf (laidOf st pos w n start nx)) loop low (f .0) (f .1)
+
+-- No cell is left.
+pub cell-stops : (cells sheet : List ℕ) (first : Slots) (ats es ws ts ns : List ℕ) (hs : List Bool) (cell pos k : ℕ) (rest : Slots) (t : ℕ)
+    → Loop cells sheet first ats es ws ts ns hs (cellsAhead first cell pos) k → CellsAlone sheet first → LaidAt cells cell pos NoCell
+    → rest ≡ cellsAhead first cell pos → t ≡ totalOf rest
+    → KeptIn cells sheet ats es ws ts ns hs (record { n = k; more = false; total = t; rest = rest })
+    × KeepsSeats cells sheet first ats es ws ts ns hs (record { n = k; more = false; total = t; rest = rest })
+cell-stops cells sheet first ats es ws ts ns hs cell pos k rest t loop a l e u =
+    let st = cellsAhead first cell pos in
+    let f = cell-end cells sheet st t (u ∙ ap totalOf e) (loop .rest-in) refl (a .none-hung) l in
+    let Is-kept : Slots → Type 0 =
+    λ z. KeptIn cells sheet ats es ws ts ns hs (record { n = k; more = false; total = t; rest = z })
+    × KeepsSeats cells sheet first ats es ws ts ns hs (record { n = k; more = false; total = t; rest = z }) in
+    subst Is-kept (sym e) (stops cells sheet first ats es ws ts ns hs st k t loop (f .0) (f .1))
+
+-- After 16 cells.
+pub cell-fills : (cells sheet : List ℕ) (first : Slots) (ats es ws ts ns : List ℕ) (hs : List Bool) (cell pos k : ℕ) (rest : Slots) (kept : Kept)
+    → Loop cells sheet first ats es ws ts ns hs (cellsAhead first cell pos) k → rest ≡ cellsAhead first cell pos → RestIn k rest kept → KeepsRest cells sheet rest kept
+    → KeptIn cells sheet ats es ws ts ns hs kept × KeepsSeats cells sheet first ats es ws ts ns hs kept
+cell-fills cells sheet first ats es ws ts ns hs cell pos k rest kept loop e =
+    fills cells sheet first ats es ws ts ns hs rest k kept (subst (λ (z : Slots). Loop cells sheet first ats es ws ts ns hs z k) (sym e) loop)
 
 -- ---- for those who walk the kept seats
 

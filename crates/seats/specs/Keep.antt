@@ -3,11 +3,14 @@
 use mathlib.Core.Path.{_≡_}
 use mathlib.Core.Bool.{Bool, true, false}
 use mathlib.Core.List.{List, [], _++_}
-use Prim.Native.Nat.{ℕ, _+_, _≤_, _<_}
+use Prim.Native.Nat.{ℕ, _+_, _*_, _≤_, _<_}
 use lib.ListN.{length, getD}
-use Rattle.fields.specs.Spans.{isSpan, readableLines}
-use Rattle.fields.specs.Places.{LinesAt}
+use Rattle.fields.specs.Spans.{Cell, isSpan, readableLines}
+use Rattle.fields.specs.Places.{LinesAt, CellsFrom}
 use Rattle.rows.specs.Columns.{Slot, slot}
+use Rattle.slots.specs.Cell.{CellIn, FindsCell}
+use Rattle.slots.specs.declared.cell.Laid.{Laid}
+use Rattle.slots.specs.declared.cell.Laid.the-variants.{Lies, NoCell}
 use Rattle.slots.specs.Seats.{source, SlotsIn, SlotsLeft}
 use Rattle.slots.specs.declared.seat.Slots.{Slots}
 use Rattle.seats.specs.declared.keep.Kept.{Kept}
@@ -97,6 +100,33 @@ pub record RestIn (n : ℕ) (ahead : Slots) (kept : Kept) : Type 0 where
 abbrev pub KeepsRest : List ℕ → List ℕ → Slots → Kept → Type 0
 KeepsRest cells sheet ahead kept =
     (xs : List Slot) (total : ℕ) → SlotsLeft cells sheet ahead xs total → kept .more ≡ false → (xs ≡ []) × (total ≡ kept .total)
+
+-- ---- rows without V fields
+
+-- no V field is left, and no seat comes before the C and K fields
+pub record CellsAlone (sheet : List ℕ) (first : Slots) : Type 0 where
+  pub none-ready : first .ready ≡ 0
+  pub none-hung : length sheet ≤ first .hung
+
+-- `ahead_at`: what is ahead of such a row where its next C or K field is at a place and at a position
+abbrev pub cellsAhead : Slots → ℕ → ℕ → Slots
+cellsAhead first cell pos =
+    record {
+      cell = cell;
+      pos = pos;
+      hung = first .hung;
+      next = pos;
+      total = first .total;
+      ready = 0;
+      front = first .back;
+      back = first .back;
+    }
+
+-- `laid_at`
+abbrev pub LaidAt : List ℕ → ℕ → ℕ → Laid → Type 0
+LaidAt cells cell pos (Lies width span start next) =
+    (pos < 4096) × CellIn cells cell (Lies width span start next) × FindsCell cells cell (Lies width span start next)
+LaidAt cells cell pos NoCell = (cs : List Cell) → CellsFrom cells cell cs → pos + 256 * length cs ≤ 4096 → cs ≡ []
 
 -- `keep_seats`
 abbrev pub KeepsSeats : List ℕ → List ℕ → Slots → List ℕ → List ℕ → List ℕ → List ℕ → List ℕ → List Bool → Kept → Type 0

@@ -85,6 +85,10 @@ hung-broken s at vs e g = absurd (let z : none ≡ some vs = rw (field-broken s 
 pub hung-end : (s : List ℕ) (at : ℕ) (vs : List Hanging) → fieldAt at (drop at s) ≡ End → HungFrom s at vs → vs ≡ []
 hung-end s at vs e g = read-none readHanging vs (rw (field-end s at e) at (g .reads))
 
+-- None stands past the sheet's end.
+pub hung-past : (s : List ℕ) (at : ℕ) (vs : List Hanging) → length s ≤ at → HungFrom s at vs → vs ≡ []
+hung-past s at vs h g = read-none readHanging vs (rw (drop-of-length-le s h, raws-nil) at (g .reads))
+
 -- where a field that is found stands
 pub record Found (s : List ℕ) (at st nx : ℕ) : Type 0 where
   pub low : at ≤ length s

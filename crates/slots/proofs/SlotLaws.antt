@@ -1,6 +1,6 @@
 -- The steps of a walk over the seats of a row: what is ahead stays the same, but for the seat that is given.
 -- Assumes nothing.
-use mathlib.Core.Path.{_≡_, refl, sym, ap, ap₂, _∙_}
+use mathlib.Core.Path.{_≡_, refl, sym, ap, ap₂, subst, _∙_}
 use mathlib.Core.Bool.{Bool, true, false}
 use mathlib.Core.List.{List, [], _∷_, _++_, append-nil}
 use Prim.Native.Nat.{ℕ, _+_, _-_, _*_, _≤_, _<_}
@@ -13,9 +13,10 @@ use Rattle.characters.proofs.Tests.{by-if, and-left, and-right}
 use Rattle.fields.specs.Field.{all}
 use Rattle.rows.specs.SubRenderer.{max, reach}
 use Rattle.rows.specs.Columns.{totalWidth, Slot, slot, cellSlots, hungSlot, slotsAt, nextPos, gapSlot, putSlot, slotsFrom, reachPast, totalFrom, slotWidths, rowSlots}
+use Rattle.fields.specs.Places.{HungFrom}
 use Rattle.fields.specs.Spans.{Hanging, Cell, readableLines, readableHanging, readableCell}
 use Rattle.rows.proofs.Columns.{next-slot, last-slot}
-use Rattle.slots.proofs.Laws.{lines-nil}
+use Rattle.slots.proofs.Laws.{lines-nil, hung-past}
 use Rattle.slots.specs.declared.cell.Laid.the-variants.{Lies, NoCell}
 use Rattle.slots.specs.declared.seat.Seat.{Seat}
 use Rattle.slots.specs.declared.seat.Slots.{Slots}
@@ -125,7 +126,7 @@ pub brought-none : (cells sheet : List ℕ) (st : Slots) (left : List Slot) (tot
     → Brought cells sheet st left total
 brought-none cells sheet st left total finds l = record { ahead = l; last = λ _. finds (l .cs) (l .cs-are) }
 
-no-cells : (cs : List Cell) (p : ℕ) → 4096 ≤ p → p + 256 * length cs ≤ 4096 → cs ≡ []
+pub no-cells : (cs : List Cell) (p : ℕ) → 4096 ≤ p → p + 256 * length cs ≤ 4096 → cs ≡ []
 no-cells [] p h k = refl
 no-cells (c ∷ cs) p h k = absurd (omega arith)
 
@@ -363,4 +364,30 @@ begins cells sheet from s cs vs a n b d e =
       vs-readable = e;
       left-is = refl;
       total-is = ap (totalFrom (cellSlots 0 cs) vs 0) (from-zero (totalWidth (slotWidths (cellSlots 0 cs))));
+    }
+
+-- ---- where no V field is left
+
+-- Where the seat before ended does not matter then, nor do the seats that are not ready.
+pub without-hung : (cells sheet : List ℕ) (st : Slots) (next : ℕ) (front back : Seat) (left : List Slot) (total : ℕ) → st .ready ≡ 0 → length sheet ≤ st .hung
+    → SlotsLeft cells sheet st left total
+    → SlotsLeft cells sheet (record { cell = st .cell; pos = st .pos; hung = st .hung; next = next; total = st .total; ready = 0; front = front; back = back }) left total
+unfolding all slotsFrom totalFrom
+without-hung cells sheet st next front back left total h k l =
+    let none = none-of cells sheet st (l .xs) h (l .xs-are) in
+    let gone = hung-past sheet (st .hung) (l .vs) k (l .vs-are) in
+    let cs = cellSlots (st .pos) (l .cs) in
+    record {
+      cs = l .cs;
+      vs = [];
+      xs = [];
+      xs-are = none-ready refl refl;
+      cs-are = l .cs-are;
+      cs-readable = l .cs-readable;
+      few = l .few;
+      vs-are = subst (HungFrom sheet (st .hung)) gone (l .vs-are);
+      vs-readable = refl;
+      left-is = l .left-is ∙ ap₂ (λ (z : List Slot) (u : List Hanging). slotsFrom (z ++ cs) u (st .next)) none gone;
+      total-is =
+          l .total-is ∙ ap₂ (λ (z : List Slot) (u : List Hanging). totalFrom (z ++ cs) u (st .next) (max (st .total) (st .pos + totalWidth (slotWidths cs)))) none gone;
     }

@@ -1,15 +1,16 @@
 -- What each step of a walk over the seats of a row has to show at its returns.
 -- Assumes nothing.
 use mathlib.Core.Path.{_≡_, refl, sym, ap, subst, _∙_}
-use mathlib.Core.List.{List}
+use mathlib.Core.List.{List, []}
 use mathlib.Core.Bool.{true}
-use Prim.Native.Nat.{ℕ, _+_, _≤_, _<_}
+use Prim.Native.Nat.{ℕ, _+_, _*_, _≤_, _<_}
 use native.Mathlib.Omega.{arith}
 use lib.ListN.{length}
 use borrow.Author.Tests.{lt-ltb, le-ltb}
 use Rattle.characters.proofs.Tests.{and-left}
 use Rattle.fields.specs.Field.{all}
-use Rattle.fields.specs.Spans.{Hanging, readableHanging}
+use Rattle.fields.specs.Places.{CellsFrom}
+use Rattle.fields.specs.Spans.{Cell, Hanging, readableHanging}
 use Rattle.rows.specs.Columns.{Slot}
 use Rattle.slots.specs.declared.cell.Laid.the-variants.{Lies, NoCell}
 use Rattle.slots.specs.declared.hung.Hung.the-variants.{Hangs}
@@ -22,6 +23,7 @@ use Rattle.slots.specs.declared.seat.Turn.the-variants.{Gives, Again, En
 use Rattle.slots.specs.Cell.{CellIn, FindsCell}
 use Rattle.slots.specs.Hung.{FirstHung, HungIn, FindsHung}
 use Rattle.slots.specs.Seats.{SeatIn, SlotsIn, slotsMeasure, SlotsLeft, NextIn, FindsNext, queueOf, laidOf, passedOf, totalOf, reachOf, gapSeat, behindOf, TurnIn, Meets, BringsIn, Brings, LastsIn, Lasts, PutsIn, HungSeat, Puts}
+use Rattle.slots.proofs.Laws.{hung-past}
 use Rattle.slots.proofs.SlotLaws.{brought, brought-none, brought-full, brought-ready, stands-none, stands-before, passes, put-instead, put-behind, at-last}
 use Rattle.slots.proofs.SlotBounds.{laid-in, passed-in, total-in, behind-in, instead-in}
 
@@ -184,3 +186,27 @@ walk-found cells sheet st ahead seat rest w i m = (
 pub walk-end : (cells sheet : List ℕ) (st ahead : Slots) (t : ℕ) → Walked cells sheet st ahead → TurnIn cells sheet ahead (Ends t) → Meets cells sheet ahead (Ends t)
     → NextIn cells sheet st (NoMore t) × FindsNext cells sheet st (NoMore t)
 walk-end cells sheet st ahead t w i m = (i, λ left total l. m left total (w .same left total l))
+
+-- ---- where no V field is left
+
+-- The next C or K field is the next seat.
+pub cell-next : (cells sheet : List ℕ) (st : Slots) (w n start nx : ℕ) → SlotsIn cells sheet st → st .ready ≡ 0 → length sheet ≤ st .hung → st .pos < 4096
+    → CellIn cells (st .cell) (Lies w n start nx) → FindsCell cells (st .cell) (Lies w n start nx)
+    → NextIn cells sheet st (Is (laidOf st (st .pos) w n start nx .front) (passedOf (laidOf st (st .pos) w n start nx)))
+    × FindsNext cells sheet st (Is (laidOf st (st .pos) w n start nx .front) (passedOf (laidOf st (st .pos) w n start nx)))
+cell-next cells sheet st w n start nx i h k low a f =
+    let on = laidOf st (st .pos) w n start nx in
+    let b = bring-laid cells st on w n start nx refl h low a f in
+    let l = last-front on (passedOf on) refl (λ z. absurd (omega (arith, z))) in
+    let m = meet-last cells sheet st on (Gives (on .front) (passedOf on)) i (b .0) (b .1) (λ vs g. hung-past sheet (st .hung) vs k g) (l .0) (l .1) in
+    walk-found cells sheet st st (on .front) (passedOf on) (walk-start cells sheet st i) (m .0) (m .1)
+
+-- With no C or K field there is none.
+pub cell-end : (cells sheet : List ℕ) (st : Slots) (t : ℕ) → t ≡ totalOf st → SlotsIn cells sheet st → st .ready ≡ 0 → length sheet ≤ st .hung
+    → ((cs : List Cell) → CellsFrom cells (st .cell) cs → st .pos + 256 * length cs ≤ 4096 → cs ≡ [])
+    → NextIn cells sheet st (NoMore t) × FindsNext cells sheet st (NoMore t)
+cell-end cells sheet st t e i h k none =
+    let l = last-end st t e h in
+    let m = meet-last cells sheet st st (Ends t) i (keeps-in cells st) (λ bytes left total x. record { ahead = x; last = λ _. none (x .cs) (x .cs-are) (x .few) })
+    (λ vs g. hung-past sheet (st .hung) vs k g) (l .0) (l .1) in
+    walk-end cells sheet st st t (walk-start cells sheet st i) (m .0) (m .1)

@@ -150,7 +150,7 @@ fn passed(st: Slots) -> Slots
 }
 
 // The row's width, one too high, where no C or K field is left.
-fn total_of(st: Slots) -> usize
+pub fn total_of(st: Slots) -> usize
     ensures { λ r. ⌜ r ≡ totalOf st ⌝ }
 {
     if st.total <= st.pos { st.pos } else { st.total }

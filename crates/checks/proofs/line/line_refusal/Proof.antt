@@ -3,8 +3,8 @@
 use mathlib.Core.Path.{_∙_}
 use Rattle.checks.proofs.LineLaws.{text-line, border-line, no-line}
 use borrow.Author.Needs.{needs}
-use Rattle.checks.proofs.lines.line_refusal.Statement.{statement}
-use Rattle.checks.proofs.lines.line_refusal.Tie as tie
+use Rattle.checks.proofs.line.line_refusal.Statement.{statement}
+use Rattle.checks.proofs.line.line_refusal.Tie as tie
 
 fields-refusal-requires : tie.Need-fields-refusal-requires
 fields-refusal-requires c κs = search needs

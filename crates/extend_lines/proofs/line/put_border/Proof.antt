@@ -1,12 +1,12 @@
--- `extend_lines::lines::put_border` meets its contract: a B field after the lines.
+-- `extend_lines::line::put_border` meets its contract: a B field after the lines.
 -- Assumes nothing.
 use mathlib.Core.Logic.{inl, inr, ⊎-elim}
 use mathlib.Core.Path.{refl}
 use native.Mathlib.Omega.{arith}
 use borrow.Author.Needs.{needs}
 use Rattle.extend_lines.proofs.Emitting.{puts-border}
-use Rattle.extend_lines.proofs.lines.put_border.Statement.{statement}
-use Rattle.extend_lines.proofs.lines.put_border.Tie as tie
+use Rattle.extend_lines.proofs.line.put_border.Statement.{statement}
+use Rattle.extend_lines.proofs.line.put_border.Tie as tie
 
 add-n : tie.Need-add-n
 add-n c = search needs

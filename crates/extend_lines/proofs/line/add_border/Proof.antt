@@ -1,10 +1,10 @@
--- `extend_lines::lines::add_border` meets its contract: with pad a line of text under the border's own annotation, else a B field.
+-- `extend_lines::line::add_border` meets its contract: with pad a line of text under the border's own annotation, else a B field.
 -- Assumes nothing.
 use native.Mathlib.Omega.{arith}
 use borrow.Author.Needs.{needs}
 use Rattle.extend_lines.proofs.Emitting.{drawn-within, drawn-fits, adds-drawn, adds-border}
-use Rattle.extend_lines.proofs.lines.add_border.Statement.{statement}
-use Rattle.extend_lines.proofs.lines.add_border.Tie as tie
+use Rattle.extend_lines.proofs.line.add_border.Statement.{statement}
+use Rattle.extend_lines.proofs.line.add_border.Tie as tie
 
 drawn-len-requires : tie.Need-drawn-len-requires
 drawn-len-requires c κs = search needs

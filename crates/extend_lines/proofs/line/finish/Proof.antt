@@ -1,9 +1,9 @@
--- `extend_lines::lines::finish` meets its contract: the head in front of the lines, or the store zeroed.
+-- `extend_lines::line::finish` meets its contract: the head in front of the lines, or the store zeroed.
 -- Assumes nothing.
 use borrow.Author.Needs.{needs}
 use Rattle.extend_lines.proofs.Emitting.{finishes-sheet, finishes-short}
-use Rattle.extend_lines.proofs.lines.finish.Statement.{statement}
-use Rattle.extend_lines.proofs.lines.finish.Tie as tie
+use Rattle.extend_lines.proofs.line.finish.Statement.{statement}
+use Rattle.extend_lines.proofs.line.finish.Tie as tie
 
 refuse-requires : tie.Need-refuse-requires
 refuse-requires c κs = search needs

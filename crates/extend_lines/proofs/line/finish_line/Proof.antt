@@ -1,12 +1,12 @@
--- `extend_lines::lines::finish_line` meets its contract: the head in front of the line's content.
+-- `extend_lines::line::finish_line` meets its contract: the head in front of the line's content.
 -- Assumes nothing.
 use mathlib.Core.Logic.{inl, inr, ⊎-elim}
 use mathlib.Core.Path.{refl}
 use native.Mathlib.Omega.{arith}
 use borrow.Author.Needs.{needs}
 use Rattle.extend_lines.proofs.Emitting.{ends}
-use Rattle.extend_lines.proofs.lines.finish_line.Statement.{statement}
-use Rattle.extend_lines.proofs.lines.finish_line.Tie as tie
+use Rattle.extend_lines.proofs.line.finish_line.Statement.{statement}
+use Rattle.extend_lines.proofs.line.finish_line.Tie as tie
 
 sub-n : tie.Need-sub-n
 sub-n c = search needs

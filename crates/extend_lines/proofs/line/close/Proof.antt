@@ -1,9 +1,9 @@
--- `extend_lines::lines::close` meets its contract: refusal 7, then 9, then the head in front of the lines or refusal 8.
+-- `extend_lines::line::close` meets its contract: refusal 7, then 9, then the head in front of the lines or refusal 8.
 -- Assumes nothing.
 use borrow.Author.Needs.{needs}
 use Rattle.extend_lines.proofs.Emitting.{closes-long, closes-many, closes-lines}
-use Rattle.extend_lines.proofs.lines.close.Statement.{statement}
-use Rattle.extend_lines.proofs.lines.close.Tie as tie
+use Rattle.extend_lines.proofs.line.close.Statement.{statement}
+use Rattle.extend_lines.proofs.line.close.Tie as tie
 
 refuse-requires : tie.Need-refuse-requires
 refuse-requires c κs = search needs

@@ -1,12 +1,12 @@
--- `keep::keep_seats` meets its contract: the first k seats are kept, and the others are ahead. Assumes nothing.
+-- `keep::keep_slots` meets its contract: the first k seats are kept, and the others are ahead. Assumes nothing.
 use mathlib.Core.Path.{subst}
 use Prim.Native.Nat.{_-_}
 use native.Mathlib.Omega.{arith}
 use borrow.Author.Needs.{needs}
 use Rattle.slots.specs.Seats.{NextIn, FindsNext}
 use Rattle.seats.proofs.Keeping.{Loop, starts, goes-on, stops, fills}
-use Rattle.seats.proofs.keep.keep_seats.Statement.{statement}
-use Rattle.seats.proofs.keep.keep_seats.Tie as tie
+use Rattle.seats.proofs.keep.keep_slots.Statement.{statement}
+use Rattle.seats.proofs.keep.keep_slots.Tie as tie
 
 abbrev Inv-loop : tie.InvT-loop
 Inv-loop cells sheet ats₀ ends₀ widths₀ tos₀ spans₀ hungs₀ st₀ k₀ ats ends widths tos spans hungs st k =
@@ -79,8 +79,8 @@ keep-rest-requires c κs = c .before .loop .inv .rest-in
 returns-2 : tie.Need-returns-2 Inv-loop μ-loop
 returns-2 c = fills _ _ _ _ _ _ _ _ _ _ _ (c .keep-rest .result) (c .before .before .loop .inv) (c .keep-rest .ensures .0) (c .keep-rest .ensures .1)
 
-pub keep-seats-spec : {M : Type 1} → statement M
-keep-seats-spec =
+pub keep-slots-spec : {M : Type 1} → statement M
+keep-slots-spec =
     tie.close
     (tie.spec
     Inv-loop

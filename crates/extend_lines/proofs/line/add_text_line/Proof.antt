@@ -1,9 +1,9 @@
--- `extend_lines::lines::add_text_line` meets its contract: the line filled, with pad, and ended.
+-- `extend_lines::line::add_text_line` meets its contract: the line filled, with pad, and ended.
 -- Assumes nothing.
 use borrow.Author.Needs.{needs}
 use Rattle.extend_lines.proofs.Emitting.{adds-padded, adds-text}
-use Rattle.extend_lines.proofs.lines.add_text_line.Statement.{statement}
-use Rattle.extend_lines.proofs.lines.add_text_line.Tie as tie
+use Rattle.extend_lines.proofs.line.add_text_line.Statement.{statement}
+use Rattle.extend_lines.proofs.line.add_text_line.Tie as tie
 
 wide-requires : tie.Need-wide-requires
 wide-requires c κs = search needs

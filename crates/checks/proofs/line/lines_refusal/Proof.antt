@@ -14,8 +14,8 @@ use Rattle.fields.proofs.Texts.{rest}
 use Rattle.fields.specs.SpanRefusals.{lineRefusal, linesRefusal}
 use Rattle.checks.proofs.LineLaws.{broken-line}
 use borrow.Author.Needs.{needs}
-use Rattle.checks.proofs.lines.lines_refusal.Statement.{statement}
-use Rattle.checks.proofs.lines.lines_refusal.Tie as tie
+use Rattle.checks.proofs.line.lines_refusal.Statement.{statement}
+use Rattle.checks.proofs.line.lines_refusal.Tie as tie
 
 abbrev Inv-loop : tie.InvT-loop
 Inv-loop s rest₀ worst₀ rest worst = Walk lineRefusal (linesRefusal (raws s)) rest worst
