@@ -11,8 +11,8 @@ use row_borders::border::next_border;
 use row_holes::row::cut_holes;
 use row_holes::row::put_holes;
 use row_holes::text::push_holes;
-use row_lines::row::is_long;
-use row_lines::row::too_long;
+use row_lines::long::is_long;
+use row_lines::long::too_long;
 use rows::RenderOptions;
 use seats::keep::Kept;
 use slots::seat::Slots;
@@ -182,7 +182,9 @@ pub fn add_below(
 ) -> Lines
     requires { ⌜ InBounds lines × (length (now border) ≡ 65536) × RowIn (now cells) (now sheet) (now at) (now end) (now width) kept × SlotsIn (now cells) (now sheet) first ⌝ }
     ensures { λ r. ⌜ NextOrSame lines r ⌝ }
-    ensures { λ r. ⌜ AddsBelow (now (out .entry)) lines options (now (cells .entry)) (now (sheet .entry)) (now (at .entry)) (now (end .entry)) (now (width .entry)) (now (hung .entry)) kept first joined collapse total height holes (now (out .exit)) r ⌝ }
+    ensures { λ r. ⌜ AddsBelow (now (out .entry)) lines options (now (cells .entry)) (now (sheet .entry))
+        (now (at .entry)) (now (end .entry)) (now (width .entry)) (now (hung .entry))
+        kept first joined collapse total height holes (now (out .exit)) r ⌝ }
 {
     if !options.borders {
         return lines;

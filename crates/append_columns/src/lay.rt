@@ -94,7 +94,9 @@ fn add_all(
 ) -> Rendered
     requires { ⌜ OldIn (now sheet) from last joined × RowIn (now cells) (now sheet) (now at) (now end) (now width) kept ⌝ }
     requires { ⌜ Narrow (now width) (now to) (kept .n) × SlotsIn (now cells) (now sheet) first × SurveyIn s ⌝ }
-    ensures { λ r. ⌜ AddsAll options (now (sheet .entry)) from last joined (now (cells .entry)) collapse (now (at .entry)) (now (end .entry)) (now (width .entry)) (now (to .entry)) (now (hung .entry)) kept first s holes (now (store .entry)) r (now (store .exit)) ⌝ }
+    ensures { λ r. ⌜ AddsAll options (now (sheet .entry)) from last joined (now (cells .entry)) collapse
+        (now (at .entry)) (now (end .entry)) (now (width .entry)) (now (to .entry)) (now (hung .entry))
+        kept first s holes (now (store .entry)) r (now (store .exit)) ⌝ }
 {
     let mut border = [0u8; 65536];
     let mut place = *at;

@@ -10,7 +10,7 @@ use fields::store::put_head;
 use fields::store::put_two;
 use places::border::border_parts;
 use row_borders::border::prev_border;
-use row_lines::row::too_long;
+use row_lines::long::too_long;
 use seats::keep::Kept;
 ghost use mathlib.Core.Path.{_≡_};
 ghost use mathlib.Core.Bool.{true};
@@ -86,7 +86,9 @@ fn put_prev_border(
 ) -> Lines
     requires { ⌜ InBounds lines × (length (now content) < 65536) × (length (now border) ≡ 65536) × RowIn (now cells) (now sheet) (now at) (now end) (now width) kept ⌝ }
     ensures { λ r. ⌜ OneLineMore lines r × (length (now (border .exit)) ≡ length (now (border .entry))) ⌝ }
-    ensures { λ r. ⌜ PutsPrev (now (out .entry)) lines letter (now (content .entry)) (now (cells .entry)) (now (sheet .entry)) (now (at .entry)) (now (end .entry)) (now (width .entry)) (now (hung .entry)) kept collapse (now (out .exit)) r ⌝ }
+    ensures { λ r. ⌜ PutsPrev (now (out .entry)) lines letter (now (content .entry)) (now (cells .entry)) (now (sheet .entry))
+        (now (at .entry)) (now (end .entry)) (now (width .entry)) (now (hung .entry))
+        kept collapse (now (out .exit)) r ⌝ }
 {
     let parts = border_parts(letter, content);
     let segs = parts.segs;
@@ -129,7 +131,9 @@ pub fn add_old(
     requires { ⌜ (length (raws (part 5 from (now sheet))) ≤ 65535) × (length (raws (part 5 last (now sheet))) ≤ 65535) ⌝ }
     requires { ⌜ (length (now border) ≡ 65536) × RowIn (now cells) (now sheet) (now at) (now end) (now width) kept ⌝ }
     ensures { λ r. ⌜ InBounds r × (r .count ≤ 65536) × (length (now (border .exit)) ≡ length (now (border .entry))) ⌝ }
-    ensures { λ r. ⌜ AddsOld (now (out .entry)) (now (sheet .entry)) from last joined (now (cells .entry)) (now (at .entry)) (now (end .entry)) (now (width .entry)) (now (hung .entry)) kept collapse (now (out .exit)) r ⌝ }
+    ensures { λ r. ⌜ AddsOld (now (out .entry)) (now (sheet .entry)) from last joined (now (cells .entry))
+        (now (at .entry)) (now (end .entry)) (now (width .entry)) (now (hung .entry))
+        kept collapse (now (out .exit)) r ⌝ }
 {
     if !joined {
         return copy_lines(out, no_lines(), &sheet[5..from]);

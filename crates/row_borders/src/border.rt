@@ -28,7 +28,9 @@ pub fn prev_border(
 ) -> usize
     requires { ⌜ RowIn (now cells) (now sheet) (now at) (now end) (now width) kept ⌝ }
     ensures { λ r. ⌜ length (now (border .exit)) ≡ length (now (border .entry)) ⌝ }
-    ensures { λ r. ⌜ BordersAbove (now (border .entry)) (now (segs .entry)) (now (cells .entry)) (now (sheet .entry)) (now (at .entry)) (now (end .entry)) (now (width .entry)) (now (hung .entry)) kept collapse (now (border .exit)) r ⌝ }
+    ensures { λ r. ⌜ BordersAbove (now (border .entry)) (now (segs .entry)) (now (cells .entry)) (now (sheet .entry))
+        (now (at .entry)) (now (end .entry)) (now (width .entry)) (now (hung .entry))
+        kept collapse (now (border .exit)) r ⌝ }
 {
     let n = set_segs(border, segs);
     let j = join_edges(border, n, cells, sheet, width, kept, Side::Below);
@@ -88,7 +90,9 @@ pub fn next_border(
 ) -> usize
     requires { ⌜ RowIn (now cells) (now sheet) (now at) (now end) (now width) kept ⌝ }
     ensures { λ r. ⌜ length (now (border .exit)) ≡ length (now (border .entry)) ⌝ }
-    ensures { λ r. ⌜ BordersBelow (now (border .entry)) total joined (now (cells .entry)) (now (sheet .entry)) (now (at .entry)) (now (end .entry)) (now (width .entry)) (now (hung .entry)) kept collapse (now (border .exit)) r ⌝ }
+    ensures { λ r. ⌜ BordersBelow (now (border .entry)) total joined (now (cells .entry)) (now (sheet .entry))
+        (now (at .entry)) (now (end .entry)) (now (width .entry)) (now (hung .entry))
+        kept collapse (now (border .exit)) r ⌝ }
 {
     let n = new_border(border, total, joined, cells, sheet, width, kept);
     if collapse {

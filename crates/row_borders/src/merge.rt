@@ -127,7 +127,9 @@ fn merge_kept(
 ) -> Merged
     requires { ⌜ (n ≤ 16) × AllNarrow (now width) n × AllOrdered (now at) (now end) n ⌝ }
     ensures { λ r. ⌜ (r .pos < 8589934592) × (length (now (border .exit)) ≡ length (now (border .entry))) ⌝ }
-    ensures { λ r. ⌜ MergesKept side (now (border .entry)) len (now (cells .entry)) (now (sheet .entry)) (now (at .entry)) (now (end .entry)) (now (width .entry)) (now (hung .entry)) n (now (border .exit)) r ⌝ }
+    ensures { λ r. ⌜ MergesKept side (now (border .entry)) len (now (cells .entry)) (now (sheet .entry))
+        (now (at .entry)) (now (end .entry)) (now (width .entry)) (now (hung .entry))
+        n (now (border .exit)) r ⌝ }
 {
     let mut merged = len;
     let mut pos: usize = 0;
@@ -207,7 +209,9 @@ pub fn merge_seats(
 ) -> usize
     requires { ⌜ RowIn (now cells) (now sheet) (now at) (now end) (now width) kept ⌝ }
     ensures { λ r. ⌜ length (now (border .exit)) ≡ length (now (border .entry)) ⌝ }
-    ensures { λ r. ⌜ MergesSeats side (now (border .entry)) len (now (cells .entry)) (now (sheet .entry)) (now (at .entry)) (now (end .entry)) (now (width .entry)) (now (hung .entry)) kept (now (border .exit)) r ⌝ }
+    ensures { λ r. ⌜ MergesSeats side (now (border .entry)) len (now (cells .entry)) (now (sheet .entry))
+        (now (at .entry)) (now (end .entry)) (now (width .entry)) (now (hung .entry))
+        kept (now (border .exit)) r ⌝ }
 {
     let m = merge_kept(
         border,

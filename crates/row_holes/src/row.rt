@@ -28,7 +28,8 @@ fn cut_one(
 ) -> usize
     requires { ⌜ SeatIn (now cells) (now sheet) seat × (pos < 8589934592) × (length (now laid) ≤ 65538) ⌝ }
     ensures { λ r. ⌜ (length (now (border .exit)) ≡ length (now (border .entry))) × (length (now (laid .exit)) ≡ length (now (laid .entry))) ⌝ }
-    ensures { λ r. ⌜ CutsOne (now (border .entry)) len annotation (now (cells .entry)) (now (sheet .entry)) seat collapse height pos (length (now (laid .entry))) (now (border .exit)) r ⌝ }
+    ensures { λ r. ⌜ CutsOne (now (border .entry)) len annotation (now (cells .entry)) (now (sheet .entry))
+        seat collapse height pos (length (now (laid .entry))) (now (border .exit)) r ⌝ }
 {
     if seat.span < 2 {
         return len;
@@ -79,7 +80,8 @@ pub fn cut_holes(
 ) -> usize
     requires { ⌜ SlotsIn (now cells) (now sheet) first × (length (now laid) ≤ 65538) ⌝ }
     ensures { λ r. ⌜ (length (now (border .exit)) ≡ length (now (border .entry))) × (length (now (laid .exit)) ≡ length (now (laid .entry))) ⌝ }
-    ensures { λ r. ⌜ CutsHoles (now (border .entry)) len annotation (now (cells .entry)) (now (sheet .entry)) first collapse height (length (now (laid .entry))) (now (border .exit)) r ⌝ }
+    ensures { λ r. ⌜ CutsHoles (now (border .entry)) len annotation (now (cells .entry)) (now (sheet .entry))
+        first collapse height (length (now (laid .entry))) (now (border .exit)) r ⌝ }
 {
     let mut st = first;
     let mut n = len;
@@ -126,7 +128,8 @@ fn put_one(
 ) -> Put
     requires { ⌜ SeatIn (now cells) (now sheet) seat × (pos < 8589934592) × (length (now laid) ≤ 65538) × (base ≤ place) × (base + 1048576 < 2 ^ 62) ⌝ }
     ensures { λ r. ⌜ (length (now (out .exit)) ≡ length (now (out .entry))) × (length (now (laid .exit)) ≡ length (now (laid .entry))) × (base ≤ r .at) ⌝ }
-    ensures { λ r. ⌜ PutsOne (now (out .entry)) base place annotation (now (cells .entry)) (now (sheet .entry)) seat collapse height pos (length (now (laid .entry))) (now (out .exit)) r ⌝ }
+    ensures { λ r. ⌜ PutsOne (now (out .entry)) base place annotation (now (cells .entry)) (now (sheet .entry))
+        seat collapse height pos (length (now (laid .entry))) (now (out .exit)) r ⌝ }
 {
     if seat.span < 2 {
         return Put {
@@ -187,7 +190,8 @@ pub fn put_holes(
 ) -> Put
     requires { ⌜ SlotsIn (now cells) (now sheet) first × (length (now laid) ≤ 65538) × (base ≤ place) × (base + 1048576 < 2 ^ 62) ⌝ }
     ensures { λ r. ⌜ (length (now (out .exit)) ≡ length (now (out .entry))) × (length (now (laid .exit)) ≡ length (now (laid .entry))) × HolesIn base r ⌝ }
-    ensures { λ r. ⌜ PutsHoles (now (out .entry)) base place annotation (now (cells .entry)) (now (sheet .entry)) first collapse height (length (now (laid .entry))) (now (out .exit)) r ⌝ }
+    ensures { λ r. ⌜ PutsHoles (now (out .entry)) base place annotation (now (cells .entry)) (now (sheet .entry))
+        first collapse height (length (now (laid .entry))) (now (out .exit)) r ⌝ }
 {
     let mut st = first;
     let mut at = place;

@@ -11,7 +11,7 @@ use holes::cols::smaller;
 use holes::draw::push_tagged;
 use long_borders::position::advance;
 use places::border::border_parts;
-use row_lines::row::is_long;
+use row_lines::long::is_long;
 use slots::seat::Next;
 use slots::seat::Seat;
 use slots::seat::Slots;

@@ -1,11 +1,11 @@
 // The lines of a row of any number of seats: the first are kept, and the others are ahead. What a function here requires, its callers
 // show.
+use crate::long::is_long;
+use crate::long::too_long;
 use crate::mark::start_ahead;
 use crate::rest::lay_rest;
-use crate::row::is_long;
 use crate::row::lay_kept;
 use crate::row::start_seats;
-use crate::row::too_long;
 use extend_lines::line::Lines;
 use extend_lines::line::add_text_line;
 use rows::RenderOptions;

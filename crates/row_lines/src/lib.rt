@@ -1,9 +1,10 @@
 // The lines of a row (request 2.1): what each seat gives to a line, from its next line on, with an edge between two; so many lines as the row
-// is high. `full::add_row`, `row::is_long` and `row::too_long` are for the crates above: what they require, that lines and places stay in
+// is high. `full::add_row`, `long::is_long` and `long::too_long` are for the crates above: what they require, that lines and places stay in
 // bounds, those show from the sizes of their inputs.
 pub mod full;
+pub mod long;
 mod mark;
 mod place;
 mod rest;
-pub mod row;
+mod row;
 mod seat;

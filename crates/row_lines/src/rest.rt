@@ -1,7 +1,7 @@
 // The seats of a row behind those that are kept, on a line. What a function here requires, its callers in this crate show.
+use crate::long::is_long;
 use crate::mark::cursor;
 use crate::mark::set_cursor;
-use crate::row::is_long;
 use crate::seat::Added;
 use crate::seat::add_seat;
 use crate::seat::open_seat;
@@ -69,7 +69,8 @@ fn add_found(
 ) -> Added
     requires { ⌜ Within line seatMost × SeatIn (now cells) (now sheet) seat ⌝ }
     ensures { λ r. ⌜ MarkedIn line (now (marks .entry)) k (now (marks .exit)) r ⌝ }
-    ensures { λ r. ⌜ AddsFound (now (out .entry)) line options (now (cells .entry)) (now (sheet .entry)) seat collapse i (now (marks .entry)) k (now (out .exit)) (now (marks .exit)) r ⌝ }
+    ensures { λ r. ⌜ AddsFound (now (out .entry)) line options (now (cells .entry)) (now (sheet .entry))
+        seat collapse i (now (marks .entry)) k (now (out .exit)) (now (marks .exit)) r ⌝ }
 {
     let at = seat.at;
     let end = seat.end;
@@ -117,7 +118,8 @@ pub fn lay_rest(
 ) -> Line
     requires { ⌜ InBounds lines × LineBegun lines begun 2100000 × SlotsIn (now cells) (now sheet) first ⌝ }
     ensures { λ r. ⌜ LineBegun lines r 2100000 ⌝ }
-    ensures { λ r. ⌜ LaysRest (now (out .entry)) begun options (now (cells .entry)) (now (sheet .entry)) first collapse n i (now (marks .entry)) (now (out .exit)) (now (marks .exit)) r ⌝ }
+    ensures { λ r. ⌜ LaysRest (now (out .entry)) begun options (now (cells .entry)) (now (sheet .entry))
+        first collapse n i (now (marks .entry)) (now (out .exit)) (now (marks .exit)) r ⌝ }
 {
     let mut line = begun;
     let mut st = first;

@@ -1,4 +1,5 @@
-// The kept seats of a row on a line, and a line that is too long. What a function here requires, its callers show.
+// The kept seats of a row on a line. What a function here requires, its callers show.
+use crate::long::is_long;
 use crate::seat::add_kept;
 use crate::seat::open_seat;
 use bodies::walk::past_top;
@@ -6,12 +7,10 @@ use extend_lines::line::Lines;
 use rows::RenderOptions;
 use tagged_line::line::Line;
 use tagged_line::line::new_line;
-ghost use mathlib.Core.Path.{_≡_};
-ghost use mathlib.Core.Bool.{true};
 ghost use Prim.Native.Nat.{_≤_};
 ghost use lib.ListN.{length};
-ghost use Rattle.extend_lines.specs.Emitted.{InBounds, OneLineMore, LineBegun};
-ghost use Rattle.row_lines.specs.Row.{Narrow, isLong, PassesKept, StartsSeats, LaysKept};
+ghost use Rattle.extend_lines.specs.Emitted.{InBounds, LineBegun};
+ghost use Rattle.row_lines.specs.Row.{Narrow, PassesKept, StartsSeats, LaysKept};
 
 // Where the lines of a seat begin behind a first border that collapsing takes off.
 fn past_first(cells: &[u8], sheet: &[u8], hung: bool, at: usize, end: usize) -> usize
@@ -46,17 +45,6 @@ pub fn start_seats(
         at[k] = past_first(cells, sheet, hung[k], at[k], end[k]);
         k += 1;
     }
-}
-
-// A line is too long for its field, by its bytes or by its columns.
-pub fn is_long(line: Line) -> bool
-    requires { ⌜ line .base ≤ line .at ⌝ }
-    ensures { λ r. ⌜ r ≡ isLong line ⌝ }
-{
-    if 131070 < line.cols {
-        return true;
-    }
-    65535 < line.at - line.base
 }
 
 // The kept seats on a new line, up to where it is too long; each that is passed stands one line further.
@@ -105,16 +93,4 @@ pub fn lay_kept(
         k += 1;
     }
     line
-}
-
-// A line that is too long is counted.
-pub fn too_long(lines: Lines) -> Lines
-    requires { ⌜ InBounds lines ⌝ }
-    ensures { λ r. ⌜ OneLineMore lines r × (r .long ≡ true) ⌝ }
-{
-    Lines {
-        at: lines.at,
-        count: lines.count + 1,
-        long: true,
-    }
 }

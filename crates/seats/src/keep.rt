@@ -80,8 +80,12 @@ fn keep_cells(
     hung: &mut [bool; 16],
 ) -> Kept
     requires { ⌜ SlotsIn (now cells) (now sheet) first × CellsAlone (now sheet) first ⌝ }
-    ensures { λ r. ⌜ KeptIn (now (cells .entry)) (now (sheet .entry)) (now (at .exit)) (now (end .exit)) (now (width .exit)) (now (to .exit)) (now (span .exit)) (now (hung .exit)) r ⌝ }
-    ensures { λ r. ⌜ KeepsSeats (now (cells .entry)) (now (sheet .entry)) first (now (at .exit)) (now (end .exit)) (now (width .exit)) (now (to .exit)) (now (span .exit)) (now (hung .exit)) r ⌝ }
+    ensures { λ r. ⌜ KeptIn (now (cells .entry)) (now (sheet .entry))
+        (now (at .exit)) (now (end .exit)) (now (width .exit)) (now (to .exit)) (now (span .exit)) (now (hung .exit))
+        r ⌝ }
+    ensures { λ r. ⌜ KeepsSeats (now (cells .entry)) (now (sheet .entry)) first
+        (now (at .exit)) (now (end .exit)) (now (width .exit)) (now (to .exit)) (now (span .exit)) (now (hung .exit))
+        r ⌝ }
 {
     let ats: &mut [usize] = at;
     let ends: &mut [usize] = end;
@@ -139,8 +143,12 @@ fn keep_slots(
     hung: &mut [bool; 16],
 ) -> Kept
     requires { ⌜ SlotsIn (now cells) (now sheet) first ⌝ }
-    ensures { λ r. ⌜ KeptIn (now (cells .entry)) (now (sheet .entry)) (now (at .exit)) (now (end .exit)) (now (width .exit)) (now (to .exit)) (now (span .exit)) (now (hung .exit)) r ⌝ }
-    ensures { λ r. ⌜ KeepsSeats (now (cells .entry)) (now (sheet .entry)) first (now (at .exit)) (now (end .exit)) (now (width .exit)) (now (to .exit)) (now (span .exit)) (now (hung .exit)) r ⌝ }
+    ensures { λ r. ⌜ KeptIn (now (cells .entry)) (now (sheet .entry))
+        (now (at .exit)) (now (end .exit)) (now (width .exit)) (now (to .exit)) (now (span .exit)) (now (hung .exit))
+        r ⌝ }
+    ensures { λ r. ⌜ KeepsSeats (now (cells .entry)) (now (sheet .entry)) first
+        (now (at .exit)) (now (end .exit)) (now (width .exit)) (now (to .exit)) (now (span .exit)) (now (hung .exit))
+        r ⌝ }
 {
     let ats: &mut [usize] = at;
     let ends: &mut [usize] = end;
@@ -189,8 +197,12 @@ pub fn keep_seats(
     hung: &mut [bool; 16],
 ) -> Kept
     requires { ⌜ SlotsIn (now cells) (now sheet) first ⌝ }
-    ensures { λ r. ⌜ KeptIn (now (cells .entry)) (now (sheet .entry)) (now (at .exit)) (now (end .exit)) (now (width .exit)) (now (to .exit)) (now (span .exit)) (now (hung .exit)) r ⌝ }
-    ensures { λ r. ⌜ KeepsSeats (now (cells .entry)) (now (sheet .entry)) first (now (at .exit)) (now (end .exit)) (now (width .exit)) (now (to .exit)) (now (span .exit)) (now (hung .exit)) r ⌝ }
+    ensures { λ r. ⌜ KeptIn (now (cells .entry)) (now (sheet .entry))
+        (now (at .exit)) (now (end .exit)) (now (width .exit)) (now (to .exit)) (now (span .exit)) (now (hung .exit))
+        r ⌝ }
+    ensures { λ r. ⌜ KeepsSeats (now (cells .entry)) (now (sheet .entry)) first
+        (now (at .exit)) (now (end .exit)) (now (width .exit)) (now (to .exit)) (now (span .exit)) (now (hung .exit))
+        r ⌝ }
 {
     if first.ready == 0 {
         if sheet.len() <= first.hung {

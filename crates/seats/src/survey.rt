@@ -139,7 +139,9 @@ fn look_kept(
 ) -> Seen
     requires { ⌜ (n ≤ 16) × AllOrdered (now at) (now end) n × AllNear (now at) (now end) n ⌝ }
     ensures { λ r. ⌜ r .height ≤ 65535 ⌝ }
-    ensures { λ r. ⌜ LooksKept (now (cells .entry)) (now (sheet .entry)) (now (at .entry)) (now (end .entry)) (now (width .entry)) (now (span .entry)) (now (hung .entry)) n total collapse r ⌝ }
+    ensures { λ r. ⌜ LooksKept (now (cells .entry)) (now (sheet .entry))
+        (now (at .entry)) (now (end .entry)) (now (width .entry)) (now (span .entry)) (now (hung .entry))
+        n total collapse r ⌝ }
 {
     let mut seen = Seen {
         top: false,
@@ -217,7 +219,9 @@ pub fn survey(
 ) -> Surveyed
     requires { ⌜ RowIn (now cells) (now sheet) (now at) (now end) (now width) kept × (kept .total ≤ 65791) ⌝ }
     ensures { λ r. ⌜ SurveyIn r ⌝ }
-    ensures { λ r. ⌜ Surveys (now (cells .entry)) (now (sheet .entry)) (now (at .entry)) (now (end .entry)) (now (width .entry)) (now (span .entry)) (now (hung .entry)) kept collapse r ⌝ }
+    ensures { λ r. ⌜ Surveys (now (cells .entry)) (now (sheet .entry))
+        (now (at .entry)) (now (end .entry)) (now (width .entry)) (now (span .entry)) (now (hung .entry))
+        kept collapse r ⌝ }
 {
     let total = total_width(kept.total);
     let seen = look_kept(

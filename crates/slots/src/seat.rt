@@ -6,7 +6,8 @@ use crate::hung::hung_at;
 ghost use mathlib.Core.Path.{_≡_};
 ghost use Prim.Native.Nat.{_+_, _≤_, _<_};
 ghost use lib.ListN.{length};
-ghost use Rattle.slots.specs.Seats.{SlotsIn, Begins, NextIn, FindsNext, noSeat, laidOf, totalOf, reachOf, passedOf, queueOf, behindOf, TurnIn, Meets, BringsIn, Brings, LastsIn, Lasts, PutsIn, Puts};
+ghost use Rattle.slots.specs.Seats.{SlotsIn, Begins, NextIn, FindsNext, noSeat, laidOf, totalOf, reachOf, passedOf, queueOf, behindOf};
+ghost use Rattle.slots.specs.Seats.{TurnIn, Meets, BringsIn, Brings, LastsIn, Lasts, PutsIn, Puts};
 
 // A cell of the row as it stands in the bytes: whether it hung (its lines are in the sheet, else in the cells); its position; its width;
 // what its lines are filled to (0 for one that hung, and for a filling cell); its rows; where its lines begin and end.

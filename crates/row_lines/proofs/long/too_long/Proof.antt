@@ -1,7 +1,7 @@
--- `row::too_long` meets its contract. Assumes nothing.
+-- `long::too_long` meets its contract. Assumes nothing.
 use borrow.Author.Needs.{needs}
-use Rattle.row_lines.proofs.row.too_long.Statement.{statement}
-use Rattle.row_lines.proofs.row.too_long.Tie as tie
+use Rattle.row_lines.proofs.long.too_long.Statement.{statement}
+use Rattle.row_lines.proofs.long.too_long.Tie as tie
 
 add-t2 : tie.Need-add-t2
 add-t2 c = search needs

@@ -1,8 +1,8 @@
--- `row::is_long` meets its contract. Assumes nothing.
+-- `long::is_long` meets its contract. Assumes nothing.
 use borrow.Author.Tests.{lt-ltb, le-ltb}
 use borrow.Author.Needs.{needs}
-use Rattle.row_lines.proofs.row.is_long.Statement.{statement}
-use Rattle.row_lines.proofs.row.is_long.Tie as tie
+use Rattle.row_lines.proofs.long.is_long.Statement.{statement}
+use Rattle.row_lines.proofs.long.is_long.Tie as tie
 
 returns : tie.Need-returns
 returns c = rw (lt-ltb 131070 (c .before .before .args .line .cols) (c .if1 .taken))
