@@ -2,14 +2,14 @@
 use crate::line::Lines;
 use fields::field::Field;
 use fields::field::field_at;
+use fields::store::put_bytes;
 use fields::store::put_field;
 use fields::store::put_head;
 use tagged_line::piece::copy_pieces;
 ghost use mathlib.Core.Path.{_≡_};
-ghost use Prim.Native.Nat.{_+_, _-_, _^_, _≤_, _<_, min};
+ghost use Prim.Native.Nat.{_+_, _≤_, _<_};
 ghost use lib.ListN.{length};
 ghost use Rattle.fields.specs.Field.{raws};
-ghost use Rattle.fields.specs.Store.{Wrote};
 ghost use Rattle.extend_lines.specs.Emitted.{InBounds, OneLineMore, CopiesLine, CopiesLines, HandsOn};
 
 // One line: a text piece by piece, a border whole, with holes or without.
@@ -68,40 +68,13 @@ pub fn copy_lines(out: &mut [u8], lines: Lines, body: &[u8]) -> Lines
     }
 }
 
-// How many of n bytes from a place on lie in a store of so many.
-fn room(store: usize, at: usize, n: usize) -> usize
-    ensures { λ r. ⌜ r ≡ min n (store - at) ⌝ }
-{
-    if store <= at {
-        return 0;
-    }
-    if store - at < n {
-        return store - at;
-    }
-    n
-}
-
-// The bytes of V fields behind the lines, as many as fit: they may be almost 2^63.
-fn put_fields(out: &mut [u8], at: usize, fields: &[u8]) -> usize
-    requires { ⌜ at < 2 ^ 62 ⌝ }
-    ensures { λ r. ⌜ Wrote (now (out .entry)) at (now (fields .entry)) (now (out .exit)) r ⌝ }
-{
-    let end = room(out.len(), at, fields.len());
-    let mut i: usize = 0;
-    while i < end {
-        out[at + i] = fields[i];
-        i += 1;
-    }
-    at + fields.len()
-}
-
 // The cells that hang from the sheet, handed on: its V fields behind the lines. The head does not count them.
 pub fn hand_on(out: &mut [u8], lines: Lines, fields: &[u8]) -> Lines
     requires { ⌜ InBounds lines ⌝ }
     ensures { λ r. ⌜ r .count ≡ lines .count ⌝ }
     ensures { λ r. ⌜ HandsOn (now (out .entry)) lines (now (fields .entry)) (now (out .exit)) r ⌝ }
 {
-    let at = put_fields(out, lines.at, fields);
+    let at = put_bytes(out, lines.at, fields);
     Lines {
         at,
         count: lines.count,
