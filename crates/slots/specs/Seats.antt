@@ -16,8 +16,6 @@ use Rattle.slots.specs.declared.seat.Seat.{Seat}
 use Rattle.slots.specs.declared.seat.Slots.{Slots}
 use Rattle.slots.specs.declared.seat.Next.{Next}
 use Rattle.slots.specs.declared.seat.Next.the-variants.{Is, NoMore}
-use Rattle.slots.specs.declared.seat.Turn.{Turn}
-use Rattle.slots.specs.declared.seat.Turn.the-variants.{Gives, Again, Ends}
 
 -- ---- a seat
 
@@ -174,21 +172,17 @@ behindOf st v hung =
     let total = reachOf (totalOf st) (v .pos) (v .width) in
     if ltb (st .next) (v .pos) then queueOf st hung total 2 (gapSeat (st .next) (v .pos)) v else queueOf st hung total 1 v v
 
--- numbers of a look at the next V field
-abbrev pub TurnIn : List ℕ → List ℕ → Slots → Turn → Type 0
-TurnIn cells sheet st (Gives seat rest) = FoundIn cells sheet st seat rest
-TurnIn cells sheet st (Again rest) = SlotsIn cells sheet rest × (slotsMeasure cells sheet rest < slotsMeasure cells sheet st)
-TurnIn cells sheet st (Ends t) = t ≤ 65791
+-- a V field in the place of the front: `instead`
+abbrev pub insteadOf : Slots → Seat → ℕ → Slots
+insteadOf st v hung = queueOf st hung (st .total) (st .ready) v (st .back)
 
--- what it finds of some seats
-abbrev pub TurnIs : List ℕ → List ℕ → Turn → List Slot → ℕ → Type 0
-TurnIs cells sheet (Gives seat rest) left total = FirstSlot cells sheet seat rest left total
-TurnIs cells sheet (Again rest) left total = SlotsLeft cells sheet rest left total
-TurnIs cells sheet (Ends t) left total = (left ≡ []) × (total ≡ t)
+-- a V field as a seat: `hung_seat`
+abbrev pub hungSeat : ℕ → ℕ → ℕ → ℕ → ℕ → Seat
+hungSeat pos w rows start next = record { hung = true; pos = pos; width = w; to = 0; span = rows; at = start; end = next }
 
--- `meet`
-abbrev pub Meets : List ℕ → List ℕ → Slots → Turn → Type 0
-Meets cells sheet st r = (left : List Slot) (total : ℕ) → SlotsLeft cells sheet st left total → TurnIs cells sheet r left total
+-- the front, and what is ahead behind it: `given`
+abbrev pub givenOf : Slots → Next
+givenOf st = Is (st .front) (passedOf st)
 
 -- some seats ahead, of which one is ready if there are C or K fields
 pub record Brought (cells sheet : List ℕ) (st : Slots) (left : List Slot) (total : ℕ) : Type 0 where
@@ -204,20 +198,6 @@ BringsIn cells st r =
 abbrev pub Brings : List ℕ → Slots → Slots → Type 0
 Brings cells st r = (sheet : List ℕ) (left : List Slot) (total : ℕ) → SlotsLeft cells sheet st left total → Brought cells sheet r left total
 
--- `last`: numbers
-abbrev pub LastsIn : Slots → Turn → Type 0
-LastsIn st r = (cells sheet : List ℕ) → SlotsIn cells sheet st → TurnIn cells sheet st r
-
--- `last`: no V field is left
-abbrev pub Lasts : Slots → Turn → Type 0
-Lasts st r =
-    (cells sheet : List ℕ) (left : List Slot) (total : ℕ) (x : Brought cells sheet st left total) → x .ahead .vs ≡ [] → TurnIs cells sheet r left total
-
--- `put`: numbers
-abbrev pub PutsIn : Slots → Seat → ℕ → Turn → Type 0
-PutsIn st v hung r =
-    (cells sheet : List ℕ) → SlotsIn cells sheet st → SeatIn cells sheet v → st .hung + 4 ≤ hung → hung ≤ length sheet → TurnIn cells sheet st r
-
 -- the first V field that is left, as a seat, and where the others stand
 pub record HungSeat (cells sheet : List ℕ) (seat : Seat) (hung : ℕ) (vs : List Hanging) : Type 0 where
   pub one : Hanging
@@ -225,9 +205,3 @@ pub record HungSeat (cells sheet : List ℕ) (seat : Seat) (hung : ℕ) (vs : Li
   pub are : vs ≡ one ∷ more
   pub seat-is : SeatIs cells sheet seat (hungSlot one)
   pub goes : HungFrom sheet hung more
-
--- `put`
-abbrev pub Puts : Slots → Seat → ℕ → Turn → Type 0
-Puts st v hung r =
-    (cells sheet : List ℕ) (left : List Slot) (total : ℕ) (x : Brought cells sheet st left total) → HungSeat cells sheet v hung (x .ahead .vs)
-    → TurnIs cells sheet r left total

@@ -6,8 +6,7 @@ use crate::hung::hung_at;
 ghost use mathlib.Core.Path.{_≡_};
 ghost use Prim.Native.Nat.{_+_, _≤_, _<_};
 ghost use lib.ListN.{length};
-ghost use Rattle.slots.specs.Seats.{SlotsIn, Begins, NextIn, FindsNext, noSeat, laidOf, totalOf, reachOf, passedOf, queueOf, behindOf};
-ghost use Rattle.slots.specs.Seats.{TurnIn, Meets, BringsIn, Brings, LastsIn, Lasts, PutsIn, Puts};
+ghost use Rattle.slots.specs.Seats.{SlotsIn, Begins, NextIn, FindsNext, noSeat, hungSeat, laidOf, totalOf, reachOf, passedOf, queueOf, behindOf, insteadOf, givenOf, BringsIn, Brings};
 
 // A cell of the row as it stands in the bytes: whether it hung (its lines are in the sheet, else in the cells); its position; its width;
 // what its lines are filled to (0 for one that hung, and for a filling cell); its rows; where its lines begin and end.
@@ -38,13 +37,6 @@ pub struct Slots {
 pub enum Next {
     Is { seat: Seat, rest: Slots },
     NoMore(usize),
-}
-
-// One look at the next V field: the next seat; the same row with that V field in its place; or the row's width, one too high.
-enum Turn {
-    Gives { seat: Seat, rest: Slots },
-    Again(Slots),
-    Ends(usize),
 }
 
 // No seat.
@@ -208,91 +200,73 @@ fn queue(st: Slots, hung: usize, total: usize, ready: usize, front: Seat, back: 
     }
 }
 
-// A V field, where hung is the place of the next one, meets the first cell ahead: that one stands before it, or gives its place to it; or none is ahead.
-fn put(st: Slots, v: Seat, hung: usize) -> Turn
-    requires { ⌜ (v .pos + v .width < 65791) × (st .front .pos + st .front .width < 65791) ⌝ }
-    ensures { λ r. ⌜ PutsIn st v hung r ⌝ }
-    ensures { λ r. ⌜ Puts st v hung r ⌝ }
+// A V field in the place of the front; hung is the place of the next one.
+fn instead(st: Slots, v: Seat, hung: usize) -> Slots
+    ensures { λ r. ⌜ r ≡ insteadOf st v hung ⌝ }
 {
-    if st.ready == 0 {
-        return Turn::Again(behind(st, v, hung));
-    }
-    let front = st.front;
     let back = st.back;
-    if front.pos < v.pos {
-        return Turn::Gives {
-            seat: front,
-            rest: passed(st),
-        };
-    }
-    Turn::Again(queue(st, hung, st.total, st.ready, v, back))
+    queue(st, hung, st.total, st.ready, v, back)
 }
 
-// No V field is left: the first cell ahead, or the end.
-fn last(st: Slots) -> Turn
-    requires { ⌜ st .front .pos + st .front .width < 65791 ⌝ }
-    ensures { λ r. ⌜ LastsIn st r ⌝ }
-    ensures { λ r. ⌜ Lasts st r ⌝ }
+// A V field, from start to next.
+fn hung_seat(pos: usize, width: usize, rows: usize, start: usize, next: usize) -> Seat
+    ensures { λ r. ⌜ r ≡ hungSeat pos width rows start next ⌝ }
 {
-    if st.ready == 0 {
-        return Turn::Ends(total_of(st));
+    Seat {
+        hung: true,
+        pos,
+        width,
+        to: 0,
+        span: rows,
+        at: start,
+        end: next,
     }
+}
+
+// The front is the next seat.
+fn given(st: Slots) -> Next
+    requires { ⌜ (1 ≤ st .ready) × (st .front .pos + st .front .width < 65791) ⌝ }
+    ensures { λ r. ⌜ r ≡ givenOf st ⌝ }
+{
     let front = st.front;
-    Turn::Gives {
+    Next::Is {
         seat: front,
         rest: passed(st),
     }
 }
 
-// One look at the next V field.
-fn meet(cells: &[u8], sheet: &[u8], st: Slots) -> Turn
-    requires { ⌜ SlotsIn (now cells) (now sheet) st ⌝ }
-    ensures { λ r. ⌜ TurnIn (now (cells .entry)) (now (sheet .entry)) st r ⌝ }
-    ensures { λ r. ⌜ Meets (now (cells .entry)) (now (sheet .entry)) st r ⌝ }
-{
-    let on = bring(cells, st);
-    let v = hung_at(sheet, on.hung);
-    match v {
-        Hung::Hangs {
-            pos,
-            width,
-            rows,
-            start,
-            next,
-        } => {
-            let seat = Seat {
-                hung: true,
-                pos,
-                width,
-                to: 0,
-                span: rows,
-                at: start,
-                end: next,
-            };
-            put(on, seat, next)
-        }
-        Hung::NoMore => last(on),
-    }
-}
-
-// The next seat of the row, or the row's width.
+// The next seat of the row, or the row's width. A V field stands behind all cells, or behind the front, or takes the front's place.
 pub fn next_slot(cells: &[u8], sheet: &[u8], st: Slots) -> Next
     requires { ⌜ SlotsIn (now cells) (now sheet) st ⌝ }
     ensures { λ r. ⌜ NextIn (now (cells .entry)) (now (sheet .entry)) st r ⌝ }
     ensures { λ r. ⌜ FindsNext (now (cells .entry)) (now (sheet .entry)) st r ⌝ }
 {
-    let mut ahead = st;
+    let mut ahead = bring(cells, st);
     loop {
-        let t = meet(cells, sheet, ahead);
-        match t {
-            Turn::Gives { seat, rest } => {
-                return Next::Is { seat, rest };
+        let v = hung_at(sheet, ahead.hung);
+        match v {
+            Hung::Hangs {
+                pos,
+                width,
+                rows,
+                start,
+                next,
+            } => {
+                let seat = hung_seat(pos, width, rows, start, next);
+                if ahead.ready == 0 {
+                    ahead = behind(ahead, seat, next);
+                } else {
+                    if ahead.front.pos < pos {
+                        return given(ahead);
+                    }
+                    ahead = instead(ahead, seat, next);
+                }
             }
-            Turn::Again(rest) => {
-                ahead = rest;
-            }
-            Turn::Ends(total) => {
-                return Next::NoMore(total);
+            Hung::NoMore => {
+                if ahead.ready == 0 {
+                    return Next::NoMore(total_of(ahead));
+                }
+                return given(ahead);
             }
         }
     }
