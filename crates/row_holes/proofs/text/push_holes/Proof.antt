@@ -42,7 +42,7 @@ add-advance : tie.Need-add-advance Inv-loop μ-loop
 add-advance c = let i = subst (NextIn _ _ _) (c .before .before .before .before .before .before .found .given .1) (c .before .before .before .before .before .before .before .before .next-slot .ensures .0) .seat-in in omega (arith, i .reaches)
 
 advance-requires : tie.Need-advance-requires Inv-loop μ-loop
-advance-requires c κs = let i = subst (NextIn _ _ _) (c .before .before .before .before .before .before .found .given .1) (c .before .before .before .before .before .before .before .before .next-slot .ensures .0) .seat-in in (c .before .before .before .before .before .before .before .before .before .before .before .loop .inv .x-low, omega (arith, i .reaches))
+advance-requires c κs = let i = subst (NextIn _ _ _) (c .before .before .before .before .before .before .found .given .1) (c .before .before .before .before .before .before .before .before .next-slot .ensures .0) .seat-in in (omega (arith, c .before .before .before .before .before .before .before .before .before .before .before .loop .inv .x-low, i .place), omega (arith, i .reaches))
 
 loop-less : tie.Need-loop-less Inv-loop μ-loop
 loop-less c = subst (NextIn _ _ _) (c .before .before .before .before .before .before .before .found .given .1) (c .before .before .before .before .before .before .before .before .before .next-slot .ensures .0) .less
