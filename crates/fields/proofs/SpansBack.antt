@@ -1,4 +1,4 @@
--- A sheet that was written is read back, with its holes and its hanging cells, and its head counts its lines and not the V fields.
+-- A sheet that was written is read back, with its holes, the names that wait and its hanging cells, and its head counts its lines alone.
 -- Assumes nothing.
 use mathlib.Core.Path.{_≡_, refl, ap, ap₂, _∙_}
 use mathlib.Core.Bool.{true, false, _&&_}
@@ -16,7 +16,7 @@ use Rattle.fields.specs.Field.{two, field, Raw, whole, raws, readAll, al
 use Rattle.fields.specs.Sheet.{Piece, str, fragment, readPiece, pieceBytes}
 use Rattle.fields.proofs.Fields.{raws-nil, raws-field}
 use Rattle.fields.proofs.Back.{Every, GoodPiece, pieces-back, segments-back}
-use Rattle.fields.specs.Spans.{Hole, hole, RenderLine, text, border, Hanging, hanging, Sheet, RawHole, punched, rawHolesF, rawHoles, readHole, readHoles, endsWithin, readHoled, readLine, isSpan, readHanging, isHanging, beforeHanging, fromHanging, readHeaded, readSheet, holesBytes, content, letter, linesBytes, hangingContent, overhangBytes, sheetBytes, HeadCounts}
+use Rattle.fields.specs.Spans.{Hole, hole, RenderLine, text, border, Hanging, hanging, Sheet, RawHole, punched, rawHolesF, rawHoles, readHole, readHoles, endsWithin, readHoled, readLine, isSpan, readHanging, isHanging, beforeHanging, fromHanging, readName, isName, beforeNames, fromNames, readHeaded, readSheet, holesBytes, content, letter, linesBytes, hangingContent, overhangBytes, namesBytes, bodyBytes, sheetBytes, HeadCounts}
 
 -- ---- holes
 
@@ -78,7 +78,7 @@ GoodLines ls = Every GoodLine ls
 abbrev pub GoodHanging : Hanging → Type 0
 GoodHanging v = (isSpan (v .rows) ≡ true) × GoodLines (v .lines)
 
--- a sheet
+-- a sheet: any names may wait
 abbrev pub GoodSheet : Sheet → Type 0
 GoodSheet t = GoodLines (t .lines) × Every GoodHanging (t .overhang)
 
@@ -172,7 +172,27 @@ unfolding readAll
 read-hangings [] h = refl
 read-hangings (v ∷ vs) h = rw (hanging-back v (h .0), read-hangings vs (h .1))
 
--- ---- the sheet
+-- ---- names
+
+-- an F field
+abbrev pub nameField : List ℕ → Raw
+nameField n = whole 0x46 n
+
+-- The fields of names that were written are the names, one for one, whatever follows.
+pub names-fields : (ns : List (List ℕ)) (bs : List ℕ) → raws (namesBytes ns ++ bs) ≡ map nameField ns ++ raws bs
+unfolding namesBytes
+names-fields [] bs = refl
+names-fields (n ∷ ns) bs =
+    ap raws (append-assoc (field 0x46 n) (namesBytes ns) bs)
+    ∙ raws-field 0x46 n (namesBytes ns ++ bs)
+    ∙ ap (λ (rs : List Raw). nameField n ∷ rs) (names-fields ns bs)
+
+read-names : (ns : List (List ℕ)) → readAll readName (map nameField ns) ≡ some ns
+unfolding readAll readName
+read-names [] = refl
+read-names (n ∷ ns) = rw (read-names ns)
+
+-- ---- the three parts
 
 -- no line is a V field
 line-stays : (l : RenderLine) → isHanging (lineField l) ≡ false
@@ -180,60 +200,100 @@ line-stays (text ps) = refl
 line-stays (border a segs []) = refl
 line-stays (border a segs (h ∷ hs)) = refl
 
--- The fields before the first V are the lines.
-pub before-lines : (ls : List RenderLine) (vs : List Hanging) → beforeHanging (map lineField ls ++ map hangingField vs) ≡ map lineField ls
+-- nor an F field
+line-no-name : (l : RenderLine) → isName (lineField l) ≡ false
+line-no-name (text ps) = refl
+line-no-name (border a segs []) = refl
+line-no-name (border a segs (h ∷ hs)) = refl
+
+-- what follows the head
+abbrev pub bodyFields : List RenderLine → List (List ℕ) → List Hanging → List Raw
+bodyFields ls ns vs = map lineField ls ++ (map nameField ns ++ map hangingField vs)
+
+-- The fields before the first V are the lines and the names.
+pub before-hung : (ls : List RenderLine) (ns : List (List ℕ)) (vs : List Hanging)
+    → beforeHanging (bodyFields ls ns vs) ≡ map lineField ls ++ map nameField ns
 unfolding beforeHanging
-before-lines [] [] = refl
-before-lines [] (v ∷ vs) = refl
-before-lines (l ∷ ls) vs = rw (line-stays l) (ap (λ (rs : List Raw). lineField l ∷ rs) (before-lines ls vs))
+before-hung [] [] [] = refl
+before-hung [] [] (v ∷ vs) = refl
+before-hung [] (n ∷ ns) vs = ap (λ (rs : List Raw). nameField n ∷ rs) (before-hung [] ns vs)
+before-hung (l ∷ ls) ns vs = rw (line-stays l) (ap (λ (rs : List Raw). lineField l ∷ rs) (before-hung ls ns vs))
 
 -- Those from it on are the cells that hang.
-pub from-lines : (ls : List RenderLine) (vs : List Hanging) → fromHanging (map lineField ls ++ map hangingField vs) ≡ map hangingField vs
+pub from-hung : (ls : List RenderLine) (ns : List (List ℕ)) (vs : List Hanging) → fromHanging (bodyFields ls ns vs) ≡ map hangingField vs
 unfolding fromHanging
-from-lines [] [] = refl
-from-lines [] (v ∷ vs) = refl
-from-lines (l ∷ ls) vs = rw (line-stays l) (from-lines ls vs)
+from-hung [] [] [] = refl
+from-hung [] [] (v ∷ vs) = refl
+from-hung [] (n ∷ ns) vs = from-hung [] ns vs
+from-hung (l ∷ ls) ns vs = rw (line-stays l) (from-hung ls ns vs)
 
--- A sheet's fields: its head, its lines, what hangs from it.
-pub sheet-fields : (t : Sheet) → raws (sheetBytes t) ≡ whole 0x48 (two (length (t .lines))) ∷ map lineField (t .lines) ++ map hangingField (t .overhang)
+-- The fields before the first F are the lines.
+pub before-named : (ls : List RenderLine) (ns : List (List ℕ)) → beforeNames (map lineField ls ++ map nameField ns) ≡ map lineField ls
+unfolding beforeNames
+before-named [] [] = refl
+before-named [] (n ∷ ns) = refl
+before-named (l ∷ ls) ns = rw (line-no-name l) (ap (λ (rs : List Raw). lineField l ∷ rs) (before-named ls ns))
+
+-- Those from it on are the names.
+pub from-named : (ls : List RenderLine) (ns : List (List ℕ)) → fromNames (map lineField ls ++ map nameField ns) ≡ map nameField ns
+unfolding fromNames
+from-named [] [] = refl
+from-named [] (n ∷ ns) = refl
+from-named (l ∷ ls) ns = rw (line-no-name l) (from-named ls ns)
+
+-- ---- the sheet
+
+-- The fields of lines, names and cells that hang.
+pub body-fields : (ls : List RenderLine) (ns : List (List ℕ)) (vs : List Hanging) → raws (bodyBytes ls ns vs) ≡ bodyFields ls ns vs
+body-fields ls ns vs =
+    lines-fields ls (namesBytes ns ++ overhangBytes vs)
+    ∙ ap (λ (rs : List Raw). map lineField ls ++ rs)
+    (names-fields ns (overhangBytes vs) ∙ ap (λ (rs : List Raw). map nameField ns ++ rs) (hangings-fields vs))
+
+-- A sheet's fields: its head, its lines, the names that wait, what hangs from it.
+pub sheet-fields : (t : Sheet) → raws (sheetBytes t) ≡ whole 0x48 (two (length (t .lines))) ∷ bodyFields (t .lines) (t .names) (t .overhang)
 unfolding sheetBytes
 sheet-fields t =
-    raws-field 0x48 (two (length (t .lines))) (linesBytes (t .lines) ++ overhangBytes (t .overhang))
-    ∙ ap (λ (rs : List Raw). whole 0x48 (two (length (t .lines))) ∷ rs)
-    (lines-fields (t .lines) (overhangBytes (t .overhang)) ∙ ap (λ (rs : List Raw). map lineField (t .lines) ++ rs) (hangings-fields (t .overhang)))
+    raws-field 0x48 (two (length (t .lines))) (bodyBytes (t .lines) (t .names) (t .overhang))
+    ∙ ap (λ (rs : List Raw). whole 0x48 (two (length (t .lines))) ∷ rs) (body-fields (t .lines) (t .names) (t .overhang))
 
 -- A SHEET THAT WAS WRITTEN IS READ BACK.
 pub sheet-back : (t : Sheet) → GoodSheet t → readSheet (sheetBytes t) ≡ some t
 unfolding readSheet readHeaded
 sheet-back t h =
     let ls = t .lines in
+    let ns = t .names in
     let vs = t .overhang in
     let n = length ls in
     rw (sheet-fields t, readHeaded)
-    (rw (before-lines ls vs, from-lines ls vs)
-    (rw (read-fields ls (h .0), read-hangings vs (h .1), eq-eqb (n / 256 * 256 + n % 256) n (div-add-mod' n 256))))
+    (rw (before-hung ls ns vs, from-hung ls ns vs)
+    (rw (before-named ls ns, from-named ls ns)
+    (rw (read-fields ls (h .0), read-names ns, read-hangings vs (h .1), eq-eqb (n / 256 * 256 + n % 256) n (div-add-mod' n 256)))))
 
 -- ---- the head
 
--- past the head stand the lines and what hangs
-pub past-head : (t : Sheet) → drop 5 (sheetBytes t) ≡ linesBytes (t .lines) ++ overhangBytes (t .overhang)
+-- past the head stand the lines, the names and what hangs
+pub past-head : (t : Sheet) → drop 5 (sheetBytes t) ≡ bodyBytes (t .lines) (t .names) (t .overhang)
 unfolding sheetBytes field
 past-head t = refl
 
-past-fields : (t : Sheet) → raws (drop 5 (sheetBytes t)) ≡ map lineField (t .lines) ++ map hangingField (t .overhang)
-past-fields t =
-    ap raws (past-head t) ∙ lines-fields (t .lines) (overhangBytes (t .overhang))
-    ∙ ap (λ (rs : List Raw). map lineField (t .lines) ++ rs) (hangings-fields (t .overhang))
+past-fields : (t : Sheet) → raws (drop 5 (sheetBytes t)) ≡ bodyFields (t .lines) (t .names) (t .overhang)
+past-fields t = ap raws (past-head t) ∙ body-fields (t .lines) (t .names) (t .overhang)
 
--- THE HEAD COUNTS THE LINES, AND NOT THE V FIELDS.
+-- THE HEAD COUNTS THE LINES, AND NEITHER NAMES NOR V FIELDS.
 pub head-counts : (t : Sheet) → HeadCounts (sheetBytes t) t
 unfolding sheetBytes field
-head-counts t = record {
-  head = refl;
-  count = div-add-mod' (length (t .lines)) 256;
-  lines = ap (λ (rs : List Raw). length (beforeHanging rs)) (past-fields t) ∙ ap length (before-lines (t .lines) (t .overhang)) ∙ length-map (t .lines) lineField;
-  hanging = ap (λ (rs : List Raw). length (fromHanging rs)) (past-fields t) ∙ ap length (from-lines (t .lines) (t .overhang)) ∙ length-map (t .overhang) hangingField;
-}
+head-counts t =
+    let ls = t .lines in
+    let ns = t .names in
+    let vs = t .overhang in
+    record {
+      head = refl;
+      count = div-add-mod' (length ls) 256;
+      lines = ap (λ (rs : List Raw). length (beforeNames (beforeHanging rs))) (past-fields t) ∙ ap (λ (rs : List Raw). length (beforeNames rs)) (before-hung ls ns vs) ∙ ap length (before-named ls ns) ∙ length-map ls lineField;
+      names = ap (λ (rs : List Raw). length (fromNames (beforeHanging rs))) (past-fields t) ∙ ap (λ (rs : List Raw). length (fromNames rs)) (before-hung ls ns vs) ∙ ap length (from-named ls ns) ∙ length-map ns nameField;
+      hanging = ap (λ (rs : List Raw). length (fromHanging rs)) (past-fields t) ∙ ap length (from-hung ls ns vs) ∙ length-map vs hangingField;
+    }
 
 -- Where there are at most 65,535 lines the two are bytes.
 pub head-bytes : (t : Sheet) → length (t .lines) ≤ 65535 → (getD (sheetBytes t) 3 0 < 256) × (getD (sheetBytes t) 4 0 < 256)

@@ -1,5 +1,5 @@
--- Refusals 1 to 3 over fields as they stand, as code walks them, with the fields of request 2.1: each field is judged by itself and the
--- smallest number is given. That they are those of whole sheets and cells is proved (rows/proofs/Refusing).
+-- Refusals 1 to 3 of a sheet and of a list of cells, with the fields of requests 2.1 and 2.2; and over fields as they stand, as code walks
+-- them: each field is judged by itself and the smallest number is given. That they are the same is proved (rows/proofs/Refusing).
 -- Assumes nothing: these are definitions.
 use mathlib.Core.Bool.{not}
 use mathlib.Core.List.{List, [], _∷_}
@@ -8,7 +8,8 @@ use lib.Dec.{eqb}
 use Rattle.characters.specs.If.{if_then_else_}
 use Rattle.fields.specs.Field.{Raw, all}
 use Rattle.fields.specs.First.{unless, firstOf, firstOver, refusalOf}
-use Rattle.fields.specs.Spans.{Hole, Hanging, Cell, RawHole, readHole, endsWithin, readLine, readHanging, readCell, readCells, readPlainCell, readPlainCells, wide, readableHole, readableLine, readableHanging, readableCell}
+use Rattle.fields.specs.Walk.{nameRefusal}
+use Rattle.fields.specs.Spans.{Hole, Hanging, Cell, RawHole, readHole, endsWithin, readLine, readHanging, readSheet, readCell, readCells, readPlainCell, readPlainCells, wideHanging, wide, readableHole, readableLine, readableHanging, readableSheet, readableCell}
 
 -- a hole of a border of n segments: past its end is 1
 abbrev pub judgedHole : ℕ → Hole → ℕ
@@ -31,6 +32,10 @@ lineRefusal r = refusalOf (λ l. unless (readableLine l)) (readLine r)
 unfoldable pub linesRefusal : List Raw → ℕ
 linesRefusal rs = firstOver lineRefusal rs
 
+-- of the F fields after the last line
+unfoldable pub namesRefusal : List Raw → ℕ
+namesRefusal rs = firstOver nameRefusal rs
+
 -- a cell that hangs: a width of 0 is 2
 abbrev pub judgedHanging : Hanging → ℕ
 judgedHanging v = if eqb (v .width) 0 then 2 else unless (readableHanging v)
@@ -42,6 +47,10 @@ hangingRefusal r = refusalOf judgedHanging (readHanging r)
 -- of the V fields
 unfoldable pub overhangRefusal : List Raw → ℕ
 overhangRefusal rs = firstOver hangingRefusal rs
+
+-- a sheet by itself: 1, 2, 3
+unfoldable pub sheetRefusal : List ℕ → ℕ
+sheetRefusal bs = refusalOf (λ t. if not (all wideHanging (t .overhang)) then 2 else if readableSheet t then 0 else 3) (readSheet bs)
 
 -- a cell: a width of 0 is 2
 abbrev pub judgedCell : Cell → ℕ

@@ -1,5 +1,5 @@
--- A sheet whose borders may have holes (G) and from which cells may hang (V), and cells that may span rows (K), read from bytes and
--- written to bytes (request 2.1). Pieces and prefixes are document 01's.
+-- A sheet whose borders may have holes (G), on which names may wait (F) and from which cells may hang (V), and cells that may span rows
+-- (K), read from bytes and written to bytes (requests 2.1 and 2.2). Pieces and prefixes are document 01's.
 -- Assumes nothing: these are definitions.
 use mathlib.Core.Path.{_≡_}
 use mathlib.Core.Bool.{Bool, false, not, _&&_, _||_}
@@ -10,6 +10,7 @@ use lib.Dec.{leb, eqb}
 use lib.ListN.{length, take, drop, getD}
 use Rattle.characters.specs.If.{if_then_else_}
 use Rattle.fields.specs.Field.{two, field, Raw, whole, broken, raws, both, readAll, all}
+use Rattle.fields.specs.Text.{readableText}
 use Rattle.fields.specs.Sheet.{Piece, readPiece, isSegment, upTo16, readablePiece, pieceBytes, piecesBytes}
 use Rattle.fields.specs.Widths.{piece-width}
 
@@ -38,14 +39,15 @@ pub record Hanging : Type 0 where
 abbrev pub hanging : ℕ → ℕ → ℕ → List RenderLine → Hanging
 hanging p w r ls = record { pos = p; width = w; rows = r; lines = ls }
 
--- a sheet: its lines, and the cells that still hang from it
+-- a sheet: its lines, the names that wait for the next text line (`pending_frags`), and the cells that still hang from it
 pub record Sheet : Type 0 where
   pub lines : List RenderLine
+  pub names : List (List ℕ)
   pub overhang : List Hanging
 
--- lines with hanging cells
-abbrev pub sheetOf : List RenderLine → List Hanging → Sheet
-sheetOf ls vs = record { lines = ls; overhang = vs }
+-- all three
+abbrev pub sheetOf : List RenderLine → List (List ℕ) → List Hanging → Sheet
+sheetOf ls ns vs = record { lines = ls; names = ns; overhang = vs }
 
 -- a cell: its width, the rows that it spans and its lines
 pub record Cell : Type 0 where
@@ -161,21 +163,52 @@ unfoldable pub fromHanging : List Raw → List Raw
 fromHanging [] = []
 fromHanging (r ∷ rs) = if isHanging r then r ∷ rs else fromHanging rs
 
--- the H field's two bytes count the lines, and not the V fields
-abbrev pub counted : List ℕ → Option (List RenderLine) → Option (List Hanging) → Option Sheet
-counted content none vs = none
-counted content (some ls) none = none
-counted [] (some ls) (some vs) = none
-counted (h ∷ []) (some ls) (some vs) = none
-counted (h ∷ o ∷ []) (some ls) (some vs) = if eqb (h * 256 + o) (length ls) then some (sheetOf ls vs) else none
-counted (h ∷ o ∷ x ∷ xs) (some ls) (some vs) = none
+-- an F field
+unfoldable pub readName : Raw → Option (List ℕ)
+readName broken = none
+readName (whole l content) = if eqb l 0x46 then some content else none
 
--- the H field first, then lines, then V fields
+-- an F field, whatever is in it
+abbrev pub isName : Raw → Bool
+isName broken = false
+isName (whole l content) = eqb l 0x46
+
+-- the fields before the first F
+unfoldable pub beforeNames : List Raw → List Raw
+beforeNames [] = []
+beforeNames (r ∷ rs) = if isName r then [] else r ∷ beforeNames rs
+
+-- and those from it on
+unfoldable pub fromNames : List Raw → List Raw
+fromNames [] = []
+fromNames (r ∷ rs) = if isName r then r ∷ rs else fromNames rs
+
+-- the three parts, if each can be read
+abbrev pub parts : Option (List RenderLine) → Option (List (List ℕ)) → Option (List Hanging) → Option Sheet
+parts none ns vs = none
+parts (some ls) none vs = none
+parts (some ls) (some ns) none = none
+parts (some ls) (some ns) (some vs) = some (sheetOf ls ns vs)
+
+-- the H field's two bytes count the lines, and neither the names nor the V fields
+abbrev pub counted : List ℕ → Option Sheet → Option Sheet
+counted content none = none
+counted [] (some t) = none
+counted (h ∷ []) (some t) = none
+counted (h ∷ o ∷ []) (some t) = if eqb (h * 256 + o) (length (t .lines)) then some t else none
+counted (h ∷ o ∷ x ∷ xs) (some t) = none
+
+-- what follows the H field: lines, then F fields, then V fields
+abbrev pub readParts : List Raw → Option Sheet
+readParts rs =
+    parts (readAll readLine (beforeNames (beforeHanging rs))) (readAll readName (fromNames (beforeHanging rs)))
+    (readAll readHanging (fromHanging rs))
+
+-- the H field first
 unfoldable pub readHeaded : List Raw → Option Sheet
 readHeaded [] = none
 readHeaded (broken ∷ rs) = none
-readHeaded (whole l content ∷ rs) =
-    if eqb l 0x48 then counted content (readAll readLine (beforeHanging rs)) (readAll readHanging (fromHanging rs)) else none
+readHeaded (whole l content ∷ rs) = if eqb l 0x48 then counted content (readParts rs) else none
 
 -- a sheet, or none for refusal 1
 unfoldable pub readSheet : List ℕ → Option Sheet
@@ -240,9 +273,13 @@ readableLines ls = all readableLine ls
 abbrev pub readableHanging : Hanging → Bool
 readableHanging v = readableLines (v .lines)
 
--- each line of a sheet and of what hangs from it
+-- each name that waits
+unfoldable pub readableNames : List (List ℕ) → Bool
+readableNames ns = all (readableText false) ns
+
+-- each line of a sheet, the names that wait and what hangs from it
 abbrev pub readableSheet : Sheet → Bool
-readableSheet t = readableLines (t .lines) && all readableHanging (t .overhang)
+readableSheet t = readableLines (t .lines) && readableNames (t .names) && all readableHanging (t .overhang)
 
 -- each line of a cell
 abbrev pub readableCell : Cell → Bool
@@ -281,15 +318,26 @@ unfoldable pub overhangBytes : List Hanging → List ℕ
 overhangBytes [] = []
 overhangBytes (v ∷ vs) = field 0x56 (hangingContent v) ++ overhangBytes vs
 
+-- the names that wait
+unfoldable pub namesBytes : List (List ℕ) → List ℕ
+namesBytes [] = []
+namesBytes (n ∷ ns) = field 0x46 n ++ namesBytes ns
+
+-- lines, the names that wait behind them and the cells that hang
+abbrev pub bodyBytes : List RenderLine → List (List ℕ) → List Hanging → List ℕ
+bodyBytes ls ns vs = linesBytes ls ++ (namesBytes ns ++ overhangBytes vs)
+
 -- a whole sheet: the head counts the lines alone
 unfoldable pub sheetBytes : Sheet → List ℕ
-sheetBytes t = field 0x48 (two (length (t .lines))) ++ (linesBytes (t .lines) ++ overhangBytes (t .overhang))
+sheetBytes t = field 0x48 (two (length (t .lines))) ++ bodyBytes (t .lines) (t .names) (t .overhang)
 
 -- ---- the head
 
--- the bytes begin with the head of a sheet, whose two bytes say the number of fields before the first V; from there on all are V
+-- the bytes begin with the head of a sheet, whose two bytes say the number of fields before the first F or V; F fields follow up to the
+-- first V, and from there on all are V
 pub record HeadCounts (bs : List ℕ) (t : Sheet) : Type 0 where
   pub head : take 3 bs ≡ 0x48 ∷ 0 ∷ 2 ∷ []
   pub count : getD bs 3 0 * 256 + getD bs 4 0 ≡ length (t .lines)
-  pub lines : length (beforeHanging (raws (drop 5 bs))) ≡ length (t .lines)
+  pub lines : length (beforeNames (beforeHanging (raws (drop 5 bs)))) ≡ length (t .lines)
+  pub names : length (fromNames (beforeHanging (raws (drop 5 bs)))) ≡ length (t .names)
   pub hanging : length (fromHanging (raws (drop 5 bs))) ≡ length (t .overhang)

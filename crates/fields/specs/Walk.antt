@@ -8,8 +8,9 @@ use Rattle.fields.specs.Text.{readableText}
 use Rattle.fields.specs.First.{refusalOf, unless}
 use Rattle.fields.specs.Job.{readField, isWrong, readable}
 use Rattle.fields.specs.Sheet.{readPiece, readLine, readPrefix, readablePiece, readableLine}
+use Rattle.fields.specs.Spans.{readName}
 use Rattle.fields.specs.declared.walk.Kind.{Kind}
-use Rattle.fields.specs.declared.walk.Kind.the-variants.{Job, Pieces, Prefixes}
+use Rattle.fields.specs.declared.walk.Kind.the-variants.{Job, Pieces, Prefixes, Names}
 
 -- 1 or 3 of a T or an F field of a job
 unfoldable pub fieldRefusal : Raw → ℕ
@@ -27,8 +28,13 @@ lineRefusal r = refusalOf (λ l. unless (readableLine l)) (readLine r)
 unfoldable pub prefixRefusal : Raw → ℕ
 prefixRefusal r = refusalOf (λ p. unless (readableText false p)) (readPrefix r)
 
+-- 1 or 3 of a name that waits
+unfoldable pub nameRefusal : Raw → ℕ
+nameRefusal r = refusalOf (λ n. unless (readableText false n)) (readName r)
+
 -- of a field, by the kind of its list
 abbrev pub refusalIn : Kind → Raw → ℕ
 refusalIn Job = fieldRefusal
 refusalIn Pieces = pieceRefusal
 refusalIn Prefixes = prefixRefusal
+refusalIn Names = nameRefusal

@@ -2,7 +2,7 @@
 ghost use mathlib.Core.Path.{_≡_};
 ghost use Rattle.fields.specs.Field.{whole, all};
 ghost use Rattle.fields.specs.Sheet.{isSegment};
-ghost use Rattle.fields.specs.Walk.{fieldRefusal, pieceRefusal, lineRefusal, prefixRefusal};
+ghost use Rattle.fields.specs.Walk.{fieldRefusal, pieceRefusal, lineRefusal, prefixRefusal, nameRefusal};
 use crate::text::text_refusal;
 
 // A T field has a mode, at most 2, two annotations and text; an F field is a name.
@@ -72,6 +72,16 @@ pub fn prefix_refusal(letter: u8, content: &[u8]) -> u8
     ensures { λ r. ⌜ r ≡ prefixRefusal (whole letter (now (content .entry))) ⌝ }
 {
     if letter != 0x50 {
+        return 1;
+    }
+    text_refusal(content, false)
+}
+
+// An F field after a sheet's last line is a name, perhaps empty.
+pub fn name_refusal(letter: u8, content: &[u8]) -> u8
+    ensures { λ r. ⌜ r ≡ nameRefusal (whole letter (now (content .entry))) ⌝ }
+{
+    if letter != 0x46 {
         return 1;
     }
     text_refusal(content, false)

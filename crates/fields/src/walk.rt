@@ -11,12 +11,14 @@ use crate::field::first_of;
 use crate::judge::job_field_refusal;
 use crate::judge::piece_refusal;
 use crate::judge::prefix_refusal;
+use crate::judge::name_refusal;
 
-// What a list of fields holds: T and F of a job, S and F of a line, or P.
+// What a list of fields holds: T and F of a job, S and F of a line, P, or F after the lines of a sheet.
 pub enum Kind {
     Job,
     Pieces,
     Prefixes,
+    Names,
 }
 
 // The refusal of one field, by the kind of its list.
@@ -27,6 +29,7 @@ fn field_refusal(kind: Kind, letter: u8, content: &[u8]) -> u8
         Kind::Job => job_field_refusal(letter, content),
         Kind::Pieces => piece_refusal(letter, content),
         Kind::Prefixes => prefix_refusal(letter, content),
+        Kind::Names => name_refusal(letter, content),
     }
 }
 

@@ -22,6 +22,12 @@ enum-told-3 c = search needs
 prefix-refusal-requires : tie.Need-prefix-refusal-requires
 prefix-refusal-requires c κs = search needs
 
+enum-told-4 : tie.Need-enum-told-4
+enum-told-4 c = search needs
+
+name-refusal-requires : tie.Need-name-refusal-requires
+name-refusal-requires c κs = search needs
+
 returns : tie.Need-returns
 returns c = rw (c .before .enum-told .given .1) (c .job-field-refusal .ensures)
 
@@ -30,6 +36,9 @@ returns-2 c = rw (c .before .enum-told2 .given .1) (c .piece-refusal .ensures)
 
 returns-3 : tie.Need-returns-3
 returns-3 c = rw (c .before .enum-told3 .given .1) (c .prefix-refusal .ensures)
+
+returns-4 : tie.Need-returns-4
+returns-4 c = rw (c .before .enum-told4 .given .1) (c .name-refusal .ensures)
 
 pub field-refusal-spec : {M : Type 1} → statement M
 field-refusal-spec =
@@ -41,6 +50,9 @@ field-refusal-spec =
     piece-refusal-requires
     enum-told-3
     prefix-refusal-requires
+    enum-told-4
+    name-refusal-requires
     returns
     returns-2
-    returns-3)
+    returns-3
+    returns-4)

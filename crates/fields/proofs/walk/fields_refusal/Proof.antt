@@ -10,9 +10,10 @@ use Rattle.fields.specs.Field.{broken, raws}
 use Rattle.fields.specs.First.{firstOver}
 use Rattle.fields.specs.Job.{readField}
 use Rattle.fields.specs.Sheet.{readPiece, readPrefix}
-use Rattle.fields.specs.Walk.{fieldRefusal, pieceRefusal, prefixRefusal, refusalIn}
+use Rattle.fields.specs.Spans.{readName}
+use Rattle.fields.specs.Walk.{fieldRefusal, pieceRefusal, prefixRefusal, nameRefusal, refusalIn}
 use Rattle.fields.specs.declared.walk.Kind.{Kind}
-use Rattle.fields.specs.declared.walk.Kind.the-variants.{Job, Pieces, Prefixes}
+use Rattle.fields.specs.declared.walk.Kind.the-variants.{Job, Pieces, Prefixes, Names}
 use Rattle.fields.proofs.Fields.{FieldIs, field-is, field-broken, field-end}
 use Rattle.fields.proofs.First.{Walk, walk-start, walk-on, walk-broken, walk-end}
 use Rattle.fields.proofs.Texts.{rest}
@@ -21,10 +22,11 @@ use Rattle.fields.proofs.walk.fields_refusal.Tie as tie
 
 -- a rest that is no field is refusal 1 in a list of any kind
 broken-in : (k : Kind) → refusalIn k broken ≡ 1
-unfolding fieldRefusal readField pieceRefusal readPiece prefixRefusal readPrefix
+unfolding fieldRefusal readField pieceRefusal readPiece prefixRefusal readPrefix nameRefusal readName
 broken-in Job = refl
 broken-in Pieces = refl
 broken-in Prefixes = refl
+broken-in Names = refl
 
 abbrev Inv-loop : tie.InvT-loop
 Inv-loop kind s rest₀ worst₀ rest worst = Walk (refusalIn kind) (firstOver (refusalIn kind) (raws s)) rest worst
