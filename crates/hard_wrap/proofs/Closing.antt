@@ -11,7 +11,7 @@ use Rattle.characters.specs.If.{if_then_else_}
 use Rattle.characters.specs.Utf8.{textBytes}
 use Rattle.characters.proofs.RoundTrip.{Scalars}
 use Rattle.fields.specs.Job.{normal}
-use Rattle.fields.specs.Sheet.{linesBytes}
+use Rattle.fields.specs.Spans.{linesBytes}
 use Rattle.fields.specs.Store.{Wrote}
 use Rattle.fields.proofs.Sets.{wrote-then}
 use Rattle.block.specs.Tag.{Tag, tag}

@@ -10,7 +10,7 @@ use Rattle.characters.specs.Columns.{str-width}
 use Rattle.characters.specs.If.{if_then_else_}
 use Rattle.characters.specs.Utf8.{textBytes}
 use Rattle.characters.proofs.RoundTrip.{Scalars}
-use Rattle.fields.specs.Sheet.{linesBytes}
+use Rattle.fields.specs.Spans.{linesBytes}
 use Rattle.fields.specs.declared.job.Setup.{Setup}
 use Rattle.block.specs.Tag.{Tag}
 use Rattle.block.specs.Result.{Result, good, tooNarrow}

@@ -15,8 +15,9 @@ use Rattle.characters.proofs.Tests.{and-left, and-right, by-if, clash}
 use Rattle.characters.proofs.RoundTrip.{Scalars}
 use Rattle.fields.specs.Field.{field}
 use Rattle.fields.specs.Job.{Mode, normal, pre, preWrap}
-use Rattle.fields.specs.Sheet.{letter, piecesBytes, linesBytes}
-use Rattle.fields.specs.Sheet as sheet
+use Rattle.fields.specs.Sheet.{piecesBytes}
+use Rattle.fields.specs.Spans.{letter, linesBytes}
+use Rattle.fields.specs.Spans as sheet
 use Rattle.block.specs.Tag.{Tag, sameTag, sameMode}
 use Rattle.block.specs.Flat.{char, name, Line, spaces, Run, run, mark, join, runs, runPiece, sheetLine}
 use Rattle.lines.specs.Items.{Item, item, markTag, nameTag, byteOf, tagOf}

@@ -6,7 +6,7 @@ use mathlib.Core.List.{List}
 use Prim.Native.Nat.{ℕ}
 use native.Mathlib.Omega.{arith}
 use lib.ListN.{length-map}
-use Rattle.fields.specs.Sheet.{linesBytes}
+use Rattle.fields.specs.Spans.{linesBytes}
 use Rattle.fields.specs.declared.job.Setup.{Setup}
 use Rattle.block.specs.Result.{tooNarrow}
 use Rattle.block.specs.Flat.{Block, columns, hasText, new, flushLine, flushWord, intoLines, wrapped, sheetLine}
