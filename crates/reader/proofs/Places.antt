@@ -1,4 +1,4 @@
--- Laws of the parts, pieces, lines, holes and hanging cells that stand at places of a byte list.
+-- Laws of the parts, pieces, lines, holes, waiting names and hanging cells that stand at places of a byte list.
 -- Assumes nothing.
 use mathlib.Core.Path.{_≡_, refl, sym, ap, _∙_}
 use mathlib.Core.List.{List, []}
@@ -16,13 +16,15 @@ use Rattle.fields.specs.declared.field.Field.{Field}
 use Rattle.fields.specs.declared.field.Field.the-variants as field
 use Rattle.fields.proofs.Fields.{FieldIs, field-is, at-end}
 use Rattle.fields.proofs.Parts.{drop-take}
-use Rattle.reader.specs.Reading.{partOf, twoAt, asPiece, pieceAt, plainBorder, holedBorder, asLine, lineAt, lineIn, endOf, lineEnd, linesEnd, asHole, holeAt, asHanging, hangingAt}
+use Rattle.reader.specs.Reading.{partOf, twoAt, asPiece, pieceAt, plainBorder, holedBorder, asLine, lineAt, inCell, lineIn, endOf, lineEnd, linesEnd, asHole, holeAt, asWaiting, waitingAt, waitEnd, nameEnd, namesEnd, asHanging, hangingAt}
 use Rattle.reader.specs.declared.line.Piece.{Piece}
 use Rattle.reader.specs.declared.line.Piece.the-variants as piece
 use Rattle.reader.specs.declared.line.Line.{Line}
 use Rattle.reader.specs.declared.line.Line.the-variants as line
 use Rattle.reader.specs.declared.hole.Hole.{Hole}
 use Rattle.reader.specs.declared.hole.Hole.the-variants as hole
+use Rattle.reader.specs.declared.waiting.Waiting.{Waiting}
+use Rattle.reader.specs.declared.waiting.Waiting.the-variants as waiting
 use Rattle.reader.specs.declared.hanging.Hanging.{Hanging}
 use Rattle.reader.specs.declared.hanging.Hanging.the-variants as hanging
 
@@ -140,23 +142,27 @@ module _ (at : ℕ) (s : List ℕ) (l start next : ℕ) (e : fieldAt at (drop at
   pub line-holed : l ≡ 0x47 → holedBorder start next s ≡ lineAt at s
   line-holed k = rw k at (line-is at s (field.At l start next) e)
 
+  -- A name that waits.
+  pub line-names : l ≡ 0x46 → line.Names at ≡ lineAt at s
+  line-names k = rw k at (line-is at s (field.At l start next) e)
+
   -- A hanging cell.
   pub line-over : l ≡ 0x56 → line.Overhang at ≡ lineAt at s
   line-over k = rw k at (line-is at s (field.At l start next) e)
 
   -- Another letter.
-  pub line-none : (l ≡ 0x4C → ⊥) → (l ≡ 0x42 → ⊥) → (l ≡ 0x47 → ⊥) → (l ≡ 0x56 → ⊥) → line.Broken ≡ lineAt at s
-  line-none k m n o = rw (ne-eqb l 0x4C k, ne-eqb l 0x42 m, ne-eqb l 0x47 n, ne-eqb l 0x56 o) at (line-is at s (field.At l start next) e)
+  pub line-none : (l ≡ 0x4C → ⊥) → (l ≡ 0x42 → ⊥) → (l ≡ 0x47 → ⊥) → (l ≡ 0x46 → ⊥) → (l ≡ 0x56 → ⊥) → line.Broken ≡ lineAt at s
+  line-none k m n o p = rw (ne-eqb l 0x4C k, ne-eqb l 0x42 m, ne-eqb l 0x47 n, ne-eqb l 0x46 o, ne-eqb l 0x56 p) at (line-is at s (field.At l start next) e)
 
 -- A hanging cell that ends behind the list.
 pub line-outside : (at end : ℕ) (s : List ℕ) → length s < end → line.Broken ≡ lineIn at end s
 unfolding lineIn
 line-outside at end s h = rw (lt-ltb (length s) end h)
 
--- A hanging cell in the list: the line is that of the bytes up to its end.
-pub line-inside : (at end : ℕ) (s : List ℕ) → end ≤ length s → lineAt at (take end s) ≡ lineIn at end s
+-- A hanging cell in the list: the line is that of the bytes up to its end, but for names.
+pub line-inside : (at end : ℕ) (s : List ℕ) (l : Line) → end ≤ length s → lineAt at (take end s) ≡ l → inCell l ≡ lineIn at end s
 unfolding lineIn
-line-inside at end s h = rw (le-ltb (length s) end h)
+line-inside at end s l h e = rw (le-ltb (length s) end h) (ap inCell (sym e))
 
 -- ---- the hole at a place
 
@@ -180,6 +186,26 @@ pub hole-is : (at end n : ℕ) (s : List ℕ) (p : Piece) → end ≤ length s �
     → asHole n p ≡ holeAt at end s
 unfolding holeAt
 hole-is at end n s p h k m e f = rw (le-ltb (length s) end h, lt-leb end at k, le-ltb (end - at) 2 m, ← e, f)
+
+-- ---- the name that waits at a place
+
+-- The name is what its field is.
+pub waiting-is : (at : ℕ) (s : List ℕ) (f : Field) → fieldAt at (drop at s) ≡ f → asWaiting at f ≡ waitingAt at s
+unfolding waitingAt
+waiting-is at s f e = rw e
+
+module _ (at : ℕ) (s : List ℕ) (l start next : ℕ) (e : fieldAt at (drop at s) ≡ field.At l start next) where
+  -- A name.
+  pub waiting-name : l ≡ 0x46 → waiting.Name start next ≡ waitingAt at s
+  waiting-name k = rw k at (waiting-is at s (field.At l start next) e)
+
+  -- A hanging cell.
+  pub waiting-over : l ≡ 0x56 → waiting.Overhang at ≡ waitingAt at s
+  waiting-over k = rw k at (waiting-is at s (field.At l start next) e)
+
+  -- Another letter.
+  pub waiting-none : (l ≡ 0x46 → ⊥) → (l ≡ 0x56 → ⊥) → waiting.Broken ≡ waitingAt at s
+  waiting-none k m = rw (ne-eqb l 0x46 k, ne-eqb l 0x56 m) at (waiting-is at s (field.At l start next) e)
 
 -- ---- the hanging cell at a place
 
@@ -228,6 +254,7 @@ piece-fits at end s =
 abbrev pub LineFits : ℕ → List ℕ → Line → Type 0
 LineFits at s (line.Text p end) = (at < end) × (end ≤ length s)
 LineFits at s (line.Border a place n holes end) = (at < end) × (end ≤ length s) × (place + n ≡ holes) × (holes ≤ end)
+LineFits at s (line.Names place) = Unit {0}
 LineFits at s (line.Overhang place) = Unit {0}
 LineFits at s line.Broken = Unit {0}
 LineFits at s line.End = Unit {0}
@@ -248,7 +275,7 @@ line-fits at s = go (fieldAt at (drop at s)) refl
         (λ _. by-if (LineFits at s) (ltb (next - start) 3) (λ _. tt)
         (λ _. by-if (LineFits at s) (leb (next - (start + 3)) (twoAt (start + 1) s)) (λ _. tt)
         (λ k. let m : twoAt (start + 1) s < next - (start + 3) = leb-false (next - (start + 3)) (twoAt (start + 1) s) k in (h, g .inside, refl, omega arith))))
-        (λ _. by-if (LineFits at s) (eqb l 0x56) (λ _. tt) (λ _. tt))))
+        (λ _. by-if (LineFits at s) (eqb l 0x46) (λ _. tt) (λ _. by-if (LineFits at s) (eqb l 0x56) (λ _. tt) (λ _. tt)))))
     go field.Broken e = tt
     go field.End e = tt
 
@@ -256,6 +283,7 @@ line-fits at s = go (fieldAt at (drop at s)) refl
 abbrev pub LineInFits : ℕ → ℕ → Line → Type 0
 LineInFits at end (line.Text p next) = (at < next) × (next ≤ end)
 LineInFits at end (line.Border a place n holes next) = (at < next) × (next ≤ end)
+LineInFits at end (line.Names place) = Unit {0}
 LineInFits at end (line.Overhang place) = Unit {0}
 LineInFits at end line.Broken = Unit {0}
 LineInFits at end line.End = Unit {0}
@@ -266,9 +294,10 @@ line-in-fits at end s =
     by-if (LineInFits at end) (ltb (length s) end) (λ _. tt)
     (λ k. go (length-take-le end s (ltb-false (length s) end k)) (lineAt at (take end s)) (line-fits at (take end s)))
   where
-    go : length (take end s) ≡ end → (l : Line) → LineFits at (take end s) l → LineInFits at end l
+    go : length (take end s) ≡ end → (l : Line) → LineFits at (take end s) l → LineInFits at end (inCell l)
     go n (line.Text p next) k = (k .0, omega (arith, k .1))
     go n (line.Border a place m holes next) k = (k .0, omega (arith, k .1))
+    go n (line.Names place) k = tt
     go n (line.Overhang place) k = tt
     go n line.Broken k = tt
     go n line.End k = tt
@@ -286,6 +315,7 @@ line-end-inside at s h = go (lineAt at s) (line-fits at s)
     go : (l : Line) → LineFits at s l → endOf at l ≤ length s
     go (line.Text p end) k = k .1
     go (line.Border a place n holes end) k = k .1
+    go (line.Names place) k = h
     go (line.Overhang place) k = h
     go line.Broken k = h
     go line.End k = h
@@ -298,6 +328,7 @@ line-end-on at s = go (lineAt at s) (line-fits at s)
     go : (l : Line) → LineFits at s l → (endOf at l ≡ at) ⊎ ((at < endOf at l) × (endOf at l ≤ length s))
     go (line.Text p end) k = inr (k .0, k .1)
     go (line.Border a place n holes end) k = inr (k .0, k .1)
+    go (line.Names place) k = inl refl
     go (line.Overhang place) k = inl refl
     go line.Broken k = inl refl
     go line.End k = inl refl
@@ -322,6 +353,66 @@ lines-end-fuel (suc fuel) at s h =
 -- The lines from a place on end where those behind the line at the place do.
 pub lines-end-next : (at : ℕ) (s : List ℕ) → linesEnd (length s) (lineEnd at s) s ≡ linesEnd (length s) at s
 lines-end-next at s = sym (lines-end-fuel (length s) at s (omega arith))
+
+-- a name that waits at a place ends behind the place and in the list
+abbrev pub WaitingFits : ℕ → List ℕ → Waiting → Type 0
+WaitingFits at s (waiting.Name start end) = (at < end) × (end ≤ length s)
+WaitingFits at s (waiting.Overhang place) = Unit {0}
+WaitingFits at s waiting.Broken = Unit {0}
+WaitingFits at s waiting.End = Unit {0}
+
+pub waiting-fits : (at : ℕ) (s : List ℕ) → WaitingFits at s (waitingAt at s)
+unfolding waitingAt
+waiting-fits at s = go (fieldAt at (drop at s)) refl
+  where
+    go : (f : Field) → fieldAt at (drop at s) ≡ f → WaitingFits at s (asWaiting at f)
+    go (field.At l start next) e =
+        let g = found s at l start next e in
+        by-if (WaitingFits at s) (eqb l 0x46) (λ _. (omega (arith, g .begins, g .order), g .inside))
+        (λ _. by-if (WaitingFits at s) (eqb l 0x56) (λ _. tt) (λ _. tt))
+    go field.Broken e = tt
+    go field.End e = tt
+
+-- The same of a name that is found.
+pub waiting-inside : (at : ℕ) (s : List ℕ) (w : Waiting) → w ≡ waitingAt at s → WaitingFits at s w
+waiting-inside at s w e = rw e (waiting-fits at s)
+
+-- The end is that of the name.
+pub name-end-is : (at : ℕ) (s : List ℕ) (w : Waiting) → waitingAt at s ≡ w → waitEnd at w ≡ nameEnd at s
+unfolding nameEnd
+name-end-is at s w e = rw e
+
+-- The name that waits at a place ends behind the place and in the list, or there is none.
+pub name-end-on : (at : ℕ) (s : List ℕ) → (nameEnd at s ≡ at) ⊎ ((at < nameEnd at s) × (nameEnd at s ≤ length s))
+unfolding nameEnd
+name-end-on at s = go (waitingAt at s) (waiting-fits at s)
+  where
+    go : (w : Waiting) → WaitingFits at s w → (waitEnd at w ≡ at) ⊎ ((at < waitEnd at w) × (waitEnd at w ≤ length s))
+    go (waiting.Name start end) k = inr k
+    go (waiting.Overhang place) k = inl refl
+    go waiting.Broken k = inl refl
+    go waiting.End k = inl refl
+
+-- Behind a name that ends elsewhere than at its place less is left of the list.
+pub name-falls : (at next : ℕ) (s : List ℕ) → next ≡ nameEnd at s → (next ≡ at → ⊥) → length s - next < length s - at
+name-falls at next s e n = ⊎-elim (λ k. absurd (n (e ∙ k))) (λ k. omega arith) (name-end-on at s)
+
+-- Where no name waits the names end.
+pub names-end-here : (fuel at : ℕ) (s : List ℕ) → nameEnd at s ≡ at → namesEnd fuel at s ≡ at
+unfolding namesEnd
+names-end-here zero at s h = refl
+names-end-here (suc fuel) at s h = rw h (names-end-here fuel at s h)
+
+-- Fuel for what is left of the list suffices.
+names-end-fuel : (fuel at : ℕ) (s : List ℕ) → length s ≤ at + fuel → namesEnd fuel at s ≡ namesEnd fuel (nameEnd at s) s
+unfolding namesEnd
+names-end-fuel zero at s h = ⊎-elim (λ k. sym k) (λ k. absurd (omega arith)) (name-end-on at s)
+names-end-fuel (suc fuel) at s h =
+    ⊎-elim (λ k. sym (ap (λ (n : ℕ). namesEnd fuel (nameEnd n s) s) k)) (λ k. names-end-fuel fuel (nameEnd at s) s (omega arith)) (name-end-on at s)
+
+-- The names from a place on end where those behind the name at the place do.
+pub names-end-next : (at : ℕ) (s : List ℕ) → namesEnd (length s) (nameEnd at s) s ≡ namesEnd (length s) at s
+names-end-next at s = sym (names-end-fuel (length s) at s (omega arith))
 
 -- a hole at a place of a border ends behind the place and not behind the border
 abbrev pub HoleFits : ℕ → ℕ → Hole → Type 0

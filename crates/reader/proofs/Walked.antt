@@ -1,4 +1,4 @@
--- A walk over a sheet that passes refusal 1 gives back its lines, pieces, holes and hanging cells, in order.
+-- A walk over a sheet that passes refusal 1 gives back its lines, pieces, holes, waiting names and hanging cells, in order.
 -- Assumes nothing.
 use mathlib.Core.Path.{_≡_, refl, sym, ap, _∙_}
 use mathlib.Core.Bool.{Bool, true, false, _&&_}
@@ -21,10 +21,10 @@ use Rattle.fields.specs.declared.field.Field.the-variants as field
 use Rattle.fields.proofs.Fields.{FieldIs, field-broken, field-end, at-end}
 use Rattle.fields.proofs.Readings.{read-first, read-none}
 use Rattle.fields.proofs.Parts.{part-length, part-cons, drop-take}
-use Rattle.fields.specs.Spans.{Hole, hole, RenderLine, text, border, Hanging, hanging, Sheet, sheetOf, RawHole, punched, torn, rawHolesF, rawHoles, readHole, readHoles, endsWithin, holed, readHoled, readBorder, readLine, isSpan, readHangingContent, readHanging, beforeHanging, fromHanging, counted, readHeaded, readSheet}
+use Rattle.fields.specs.Spans.{Hole, hole, RenderLine, text, border, Hanging, hanging, Sheet, sheetOf, RawHole, punched, torn, rawHolesF, rawHoles, readHole, readHoles, endsWithin, holed, readHoled, readBorder, readLine, isSpan, readHangingContent, readHanging, beforeHanging, fromHanging, readName, beforeNames, fromNames, parts, counted, readParts, readHeaded, readSheet}
 use Rattle.fields.proofs.SpansBack.{holes-cons}
-use Rattle.reader.specs.Reading.{partOf, twoAt, pieceAt, lineEnd, piecesFrom, holesFrom, linesFrom, linesEnd, hangingsFrom, walked, WalksBack}
-use Rattle.reader.proofs.Places.{part-inside, part-cut, found, piece-is, piece-name, piece-text, border-plain, border-holed, line-is, line-text, line-plain, line-holed, line-over, line-end-is, lines-end-here, hole-end, hole-is, hanging-is, hanging-cell}
+use Rattle.reader.specs.Reading.{partOf, twoAt, pieceAt, lineEnd, nameEnd, piecesFrom, holesFrom, linesFrom, linesEnd, namesFrom, namesEnd, hangingsFrom, allLinesEnd, allNamesEnd, walked, WalksBack}
+use Rattle.reader.proofs.Places.{part-inside, part-cut, found, piece-is, piece-name, piece-text, border-plain, border-holed, line-is, line-text, line-plain, line-holed, line-names, line-over, line-end-is, lines-end-here, hole-end, hole-is, waiting-is, waiting-name, waiting-over, name-end-is, names-end-here, hanging-is, hanging-cell}
 
 -- ---- a list that is read
 
@@ -327,7 +327,7 @@ part-three start next s h k =
     ∙ ap (λ (l : List ℕ). getD s start 0 ∷ l) (part-cons (start + 1) next s (omega arith) k
     ∙ ap (λ (l : List ℕ). getD s (start + 1) 0 ∷ l) (rw e at (part-cons (start + 1 + 1) next s (omega arith) k)))
 
--- ---- the fields before the first V, and from it on
+-- ---- the fields before the first V or the first F, and from it on
 
 module _ (l : ℕ) (c : List ℕ) (rs : List Raw) where
   -- A V is the first one.
@@ -339,6 +339,16 @@ module _ (l : ℕ) (c : List ℕ) (rs : List Raw) where
   before-other : eqb l 0x56 ≡ false → (beforeHanging (whole l c ∷ rs) ≡ whole l c ∷ beforeHanging rs) × (fromHanging (whole l c ∷ rs) ≡ fromHanging rs)
   unfolding beforeHanging fromHanging
   before-other h = (rw h, rw h)
+
+  -- An F is the first name.
+  before-f : l ≡ 0x46 → (beforeNames (whole l c ∷ rs) ≡ []) × (fromNames (whole l c ∷ rs) ≡ whole l c ∷ rs)
+  unfolding beforeNames fromNames
+  before-f h = (rw h, rw h)
+
+  -- Another field stands before it.
+  before-line : eqb l 0x46 ≡ false → (beforeNames (whole l c ∷ rs) ≡ whole l c ∷ beforeNames rs) × (fromNames (whole l c ∷ rs) ≡ fromNames rs)
+  unfolding beforeNames fromNames
+  before-line h = (rw h, rw h)
 
 module _ (s : List ℕ) where
   -- A line that is found is the first one of the walk, which goes on where it ends.
@@ -385,26 +395,110 @@ module _ (s : List ℕ) where
       let g = line-end-is at s _ (sym f) in
       (rw (← g, ← f, ea, segs, b, w), sym g)
 
+  -- what stands from a place on is names and V fields, those of a list of fields
+  abbrev Behind : ℕ → List Raw → Type 0
+  Behind at rs = (beforeHanging (raws (drop at s)) ≡ fromNames (beforeHanging rs)) × (fromHanging (raws (drop at s)) ≡ fromHanging rs)
+
   -- The lines of a sheet, from a place on, and what stands behind them.
   abbrev LinesBack : ℕ → Type 0
   LinesBack fuel =
-      (at : ℕ) (ls : List RenderLine) → length s ≤ at + fuel → readAll readLine (beforeHanging (raws (drop at s))) ≡ some ls
-      → (linesFrom fuel at s ≡ ls) × (raws (drop (linesEnd fuel at s) s) ≡ fromHanging (raws (drop at s)))
+      (at : ℕ) (ls : List RenderLine) → length s ≤ at + fuel → readAll readLine (beforeNames (beforeHanging (raws (drop at s)))) ≡ some ls
+      → (linesFrom fuel at s ≡ ls) × Behind (linesEnd fuel at s) (raws (drop at s))
 
-  lines-over : (at : ℕ) (ls : List RenderLine) → raws (drop at s) ≡ [] → readAll readLine (beforeHanging (raws (drop at s))) ≡ some ls
-      → (ls ≡ []) × (raws (drop at s) ≡ fromHanging (raws (drop at s)))
-  unfolding beforeHanging fromHanging
-  lines-over at ls h e = (read-none readLine ls (rw h at e), rw h)
+  lines-over : (at : ℕ) (ls : List RenderLine) → raws (drop at s) ≡ [] → readAll readLine (beforeNames (beforeHanging (raws (drop at s)))) ≡ some ls
+      → (ls ≡ []) × Behind at (raws (drop at s))
+  unfolding beforeHanging beforeNames fromNames
+  lines-over at ls h e = (read-none readLine ls (rw h at e), (rw h, refl))
 
   lines-back : (fuel : ℕ) → LinesBack fuel
-  unfolding linesFrom linesEnd readLine beforeHanging
+  unfolding linesFrom linesEnd readLine beforeHanging beforeNames fromNames
   lines-back zero at ls m e =
       let r = lines-over at ls (field-end s at (sym (at-end s at (omega arith)))) e in
       (sym (r .0), r .1)
   lines-back (suc fuel) at ls m e = go (lines-back fuel) (fieldAt at (drop at s)) refl
     where
       go : LinesBack fuel → (f : Field) → fieldAt at (drop at s) ≡ f
-          → (linesFrom (suc fuel) at s ≡ ls) × (raws (drop (linesEnd (suc fuel) at s) s) ≡ fromHanging (raws (drop at s)))
+          → (linesFrom (suc fuel) at s ≡ ls) × Behind (linesEnd (suc fuel) at s) (raws (drop at s))
+      go again (field.At l start next) k = by-letter (eqb l 0x56) refl (eqb l 0x46) refl
+        where
+          g : FieldIs s at l start next
+          g = found s at l start next k
+
+          rs : List Raw
+          rs = raws (drop next s)
+
+          by-letter : (x : Bool) → eqb l 0x56 ≡ x → (y : Bool) → eqb l 0x46 ≡ y
+              → (linesFrom (suc fuel) at s ≡ ls) × Behind (linesEnd (suc fuel) at s) (raws (drop at s))
+          by-letter true x y z =
+              let v = eqb-true l 0x56 x in
+              let b = before-v l (part start next s) rs v in
+              let f = line-over at s l start next k v in
+              let here = sym (line-end-is at s _ (sym f)) in
+              let none-left : ls ≡ [] = read-none readLine ls (rw (g .fields, b .0) at e) in
+              (rw (← f) (sym none-left), rw (here, lines-end-here fuel at s here, g .fields, b .0) (refl, refl))
+          by-letter false x true z =
+              let n = eqb-true l 0x46 z in
+              let b = before-other l (part start next s) rs x in
+              let d = before-f l (part start next s) (beforeHanging rs) n in
+              let f = line-names at s l start next k n in
+              let here = sym (line-end-is at s _ (sym f)) in
+              let none-left : ls ≡ [] = read-none readLine ls (rw (g .fields, b .0, d .0) at e) in
+              (rw (← f) (sym none-left), rw (here, lines-end-here fuel at s here, g .fields, b .0, d .1) (refl, refl))
+          by-letter false x false z =
+              let b = before-other l (part start next s) rs x in
+              let d = before-line l (part start next s) (beforeHanging rs) z in
+              let r = read-first readLine (whole l (part start next s)) (beforeNames (beforeHanging rs)) ls (rw (g .fields, b .0, d .0) at e) in
+              let q = line-first fuel at l start next (r .one) (g .order) (g .inside) k (line-of l (part start next s) (r .one) (r .first)) in
+              let w = again next (r .more) (omega (arith, g .begins, g .order)) (r .later) in
+              (q .0 ∙ ap (λ (z : List RenderLine). r .one ∷ z) (w .0) ∙ sym (r .are), rw (q .1, g .fields, b .0, b .1, d .1) (w .1))
+      go again field.Broken k = absurd (read-broken readLine ls refl (rw (field-broken s at k) at e))
+      go again field.End k =
+          let r = lines-over at ls (field-end s at k) e in
+          let f = line-is at s field.End k in
+          let here = sym (line-end-is at s _ (sym f)) in
+          (rw (← f) (sym (r .0)), rw (here, lines-end-here fuel at s here) (r .1))
+
+-- ---- names that wait
+
+-- what a field that is read as a name is
+name-of : (letter : ℕ) (t n : List ℕ) → readName (whole letter t) ≡ some n → (letter ≡ 0x46) × (n ≡ t)
+unfolding readName
+name-of letter t n e = go (eqb letter 0x46) refl e
+  where
+    go : (x : Bool) → eqb letter 0x46 ≡ x → (if x then some t else none) ≡ some n → (letter ≡ 0x46) × (n ≡ t)
+    go true h e = (eqb-true letter 0x46 h, cc)
+    go false h e = absurd (Option·none-ne-some _ e)
+
+module _ (s : List ℕ) where
+  -- A name that is found is the first one of the walk, which goes on where it ends.
+  name-first : (fuel at l start next : ℕ) (n : List ℕ) → start ≤ next → next ≤ length s → fieldAt at (drop at s) ≡ field.At l start next
+      → (l ≡ 0x46) × (n ≡ part start next s) → (namesFrom (suc fuel) at s ≡ n ∷ namesFrom fuel next s) × (nameEnd at s ≡ next)
+  unfolding namesFrom
+  name-first fuel at l start next n o k e (x, w) =
+      let f = waiting-name at s l start next e x in
+      let g = name-end-is at s _ (sym f) in
+      (rw (← g, ← f, w, part-inside start next s o k), sym g)
+
+  -- The names of a sheet, from a place on, and what stands behind them.
+  abbrev NamesBack : ℕ → Type 0
+  NamesBack fuel =
+      (at : ℕ) (ns : List (List ℕ)) → length s ≤ at + fuel → readAll readName (beforeHanging (raws (drop at s))) ≡ some ns
+      → (namesFrom fuel at s ≡ ns) × (raws (drop (namesEnd fuel at s) s) ≡ fromHanging (raws (drop at s)))
+
+  names-over : (at : ℕ) (ns : List (List ℕ)) → raws (drop at s) ≡ [] → readAll readName (beforeHanging (raws (drop at s))) ≡ some ns
+      → (ns ≡ []) × (raws (drop at s) ≡ fromHanging (raws (drop at s)))
+  unfolding beforeHanging fromHanging
+  names-over at ns h e = (read-none readName ns (rw h at e), rw h)
+
+  names-back : (fuel : ℕ) → NamesBack fuel
+  unfolding namesFrom namesEnd readName beforeHanging
+  names-back zero at ns m e =
+      let r = names-over at ns (field-end s at (sym (at-end s at (omega arith)))) e in
+      (sym (r .0), r .1)
+  names-back (suc fuel) at ns m e = go (names-back fuel) (fieldAt at (drop at s)) refl
+    where
+      go : NamesBack fuel → (f : Field) → fieldAt at (drop at s) ≡ f
+          → (namesFrom (suc fuel) at s ≡ ns) × (raws (drop (namesEnd (suc fuel) at s) s) ≡ fromHanging (raws (drop at s)))
       go again (field.At l start next) k = by-letter (eqb l 0x56) refl
         where
           g : FieldIs s at l start next
@@ -413,24 +507,26 @@ module _ (s : List ℕ) where
           rs : List Raw
           rs = raws (drop next s)
 
-          by-letter : (x : Bool) → eqb l 0x56 ≡ x → (linesFrom (suc fuel) at s ≡ ls) × (raws (drop (linesEnd (suc fuel) at s) s) ≡ fromHanging (raws (drop at s)))
+          by-letter : (x : Bool) → eqb l 0x56 ≡ x → (namesFrom (suc fuel) at s ≡ ns) × (raws (drop (namesEnd (suc fuel) at s) s) ≡ fromHanging (raws (drop at s)))
           by-letter true x =
               let v = eqb-true l 0x56 x in
               let b = before-v l (part start next s) rs v in
-              let f = line-over at s l start next k v in
-              let none-left : ls ≡ [] = read-none readLine ls (rw (g .fields, b .0) at e) in
-              (rw (← f) (sym none-left), rw (← line-end-is at s _ (sym f), lines-end-here fuel at s (sym (line-end-is at s _ (sym f))), g .fields) (sym (b .1)))
+              let f = waiting-over at s l start next k v in
+              let here = sym (name-end-is at s _ (sym f)) in
+              let none-left : ns ≡ [] = read-none readName ns (rw (g .fields, b .0) at e) in
+              (rw (← f) (sym none-left), rw (here, names-end-here fuel at s here, g .fields) (sym (b .1)))
           by-letter false x =
               let b = before-other l (part start next s) rs x in
-              let r = read-first readLine (whole l (part start next s)) (beforeHanging rs) ls (rw (g .fields, b .0) at e) in
-              let q = line-first fuel at l start next (r .one) (g .order) (g .inside) k (line-of l (part start next s) (r .one) (r .first)) in
+              let r = read-first readName (whole l (part start next s)) (beforeHanging rs) ns (rw (g .fields, b .0) at e) in
+              let q = name-first fuel at l start next (r .one) (g .order) (g .inside) k (name-of l (part start next s) (r .one) (r .first)) in
               let w = again next (r .more) (omega (arith, g .begins, g .order)) (r .later) in
-              (q .0 ∙ ap (λ (z : List RenderLine). r .one ∷ z) (w .0) ∙ sym (r .are), rw (q .1, g .fields, b .1) (w .1))
-      go again field.Broken k = absurd (read-broken readLine ls refl (rw (field-broken s at k) at e))
+              (q .0 ∙ ap (λ (z : List (List ℕ)). r .one ∷ z) (w .0) ∙ sym (r .are), rw (q .1, g .fields, b .1) (w .1))
+      go again field.Broken k = absurd (read-broken readName ns refl (rw (field-broken s at k) at e))
       go again field.End k =
-          let r = lines-over at ls (field-end s at k) e in
-          let f = line-is at s field.End k in
-          (rw (← f) (sym (r .0)), rw (← line-end-is at s _ (sym f), lines-end-here fuel at s (sym (line-end-is at s _ (sym f)))) (r .1))
+          let r = names-over at ns (field-end s at k) e in
+          let f = waiting-is at s field.End k in
+          let here = sym (name-end-is at s _ (sym f)) in
+          (rw (← f) (sym (r .0)), rw (here, names-end-here fuel at s here) (r .1))
 
 -- ---- hanging cells
 
@@ -460,20 +556,22 @@ hanging-of letter t v e = go (eqb letter 0x56) refl e
     go true h e = hanging-content letter t v (eqb-true letter 0x56 h) e
     go false h e = absurd (Option·none-ne-some _ e)
 
--- A line is no V.
-not-v : (l : ℕ) (c : List ℕ) (r : RenderLine) → LineOf l c r → eqb l 0x56 ≡ false
-not-v l c r (is-text ps x y w) = rw x
-not-v l c r (is-border a segs x y w) = rw x
-not-v l c r (is-holed a h o rest hs x y z u w) = rw x
+-- A line is no V and no F.
+not-v-f : (l : ℕ) (c : List ℕ) (r : RenderLine) → LineOf l c r → (eqb l 0x56 ≡ false) × (eqb l 0x46 ≡ false)
+not-v-f l c r (is-text ps x y w) = (rw x, rw x)
+not-v-f l c r (is-border a segs x y w) = (rw x, rw x)
+not-v-f l c r (is-holed a h o rest hs x y z u w) = (rw x, rw x)
 
--- Among fields that are read as lines there is no V.
-all-lines : (rs : List Raw) (ls : List RenderLine) → readAll readLine rs ≡ some ls → beforeHanging rs ≡ rs
-unfolding beforeHanging readLine
+-- Among fields that are read as lines there is no V and no F.
+all-lines : (rs : List Raw) (ls : List RenderLine) → readAll readLine rs ≡ some ls → beforeNames (beforeHanging rs) ≡ rs
+unfolding beforeHanging beforeNames readLine
 all-lines [] ls e = refl
 all-lines (broken ∷ rs) ls e = let r = read-first readLine broken rs ls e in ap (λ (q : List Raw). broken ∷ q) (all-lines rs (r .more) (r .later))
 all-lines (whole l c ∷ rs) ls e =
     let r = read-first readLine (whole l c) rs ls e in
-    before-other l c rs (not-v l c (r .one) (line-of l c (r .one) (r .first))) .0
+    let n = not-v-f l c (r .one) (line-of l c (r .one) (r .first)) in
+    ap beforeNames (before-other l c rs (n .0) .0)
+    ∙ before-line l c (beforeHanging rs) (n .1) .0
     ∙ ap (λ (q : List Raw). whole l c ∷ q) (all-lines rs (r .more) (r .later))
 
 -- The first four bytes of a part, and the others.
@@ -500,7 +598,7 @@ module _ (s : List ℕ) where
       let ew : getD s (start + 2) 0 ≡ w = cc in
       let es : getD s (start + 3) 0 ≡ r = cc in
       let left : rest ≡ drop (start + 4) (take next s) = sym er ∙ sym (drop-take (start + 4) next s room k) in
-      let reads : readAll readLine (beforeHanging (raws (drop (start + 4) (take next s)))) ≡ some ls =
+      let reads : readAll readLine (beforeNames (beforeHanging (raws (drop (start + 4) (take next s))))) ≡ some ls =
       ap (readAll readLine) (all-lines (raws (drop (start + 4) (take next s))) ls (rw left at u)) ∙ (rw left at u) in
       let b = lines-back (take next s) (length s) (start + 4) ls (omega (arith, length-take-le next s k)) reads .0 in
       let f = hanging-cell at s l start next e x (omega arith) in
@@ -529,33 +627,48 @@ module _ (s : List ℕ) where
 
 -- ---- the sheet
 
--- the fields behind a head: lines, then hanging cells
-abbrev Reads : List Raw → Sheet → Type 0
-Reads rs t = (readAll readLine (beforeHanging rs) ≡ some (t .lines)) × (readAll readHanging (fromHanging rs) ≡ some (t .overhang))
+-- the fields behind a head: lines, then names, then hanging cells
+record Reads (rs : List Raw) (t : Sheet) : Type 0 where
+  lines : readAll readLine (beforeNames (beforeHanging rs)) ≡ some (t .lines)
+  names : readAll readName (fromNames (beforeHanging rs)) ≡ some (t .names)
+  hanging : readAll readHanging (fromHanging rs) ≡ some (t .overhang)
 
 -- The head's content is two bytes.
-counted-two : (c : List ℕ) (o : Option (List RenderLine)) (q : Option (List Hanging)) (t : Sheet) → counted c o q ≡ some t
-    → (length c ≡ 2) × (o ≡ some (t .lines)) × (q ≡ some (t .overhang))
-counted-two c none q t e = absurd (Option·none-ne-some t e)
-counted-two c (some ls) none t e = absurd (Option·none-ne-some t e)
-counted-two [] (some ls) (some vs) t e = absurd (Option·none-ne-some t e)
-counted-two (a ∷ []) (some ls) (some vs) t e = absurd (Option·none-ne-some t e)
-counted-two (a ∷ b ∷ []) (some ls) (some vs) t e = go (eqb (a * 256 + b) (length ls)) e
+counted-two : (c : List ℕ) (o : Option Sheet) (t : Sheet) → counted c o ≡ some t → (length c ≡ 2) × (o ≡ some t)
+counted-two c none t e = absurd (Option·none-ne-some t e)
+counted-two [] (some u) t e = absurd (Option·none-ne-some t e)
+counted-two (a ∷ []) (some u) t e = absurd (Option·none-ne-some t e)
+counted-two (a ∷ b ∷ []) (some u) t e = go (eqb (a * 256 + b) (length (u .lines))) e
   where
-    go : (x : Bool) → (if x then some (sheetOf ls vs) else none) ≡ some t → (suc (suc zero) ≡ 2) × (some ls ≡ some (t .lines)) × (some vs ≡ some (t .overhang))
-    go true e =
-        let k : sheetOf ls vs ≡ t = cc in
-        (refl, ap (λ (z : Sheet). some (z .lines)) k, ap (λ (z : Sheet). some (z .overhang)) k)
+    go : (x : Bool) → (if x then some u else none) ≡ some t → (suc (suc zero) ≡ 2) × (some u ≡ some t)
+    go true e = (refl, e)
     go false e = absurd (Option·none-ne-some _ e)
-counted-two (a ∷ b ∷ x ∷ c) (some ls) (some vs) t e = absurd (Option·none-ne-some t e)
+counted-two (a ∷ b ∷ x ∷ c) (some u) t e = absurd (Option·none-ne-some t e)
+
+-- Each of the three parts is read.
+parts-read : (rs : List Raw) (t : Sheet) → readParts rs ≡ some t → Reads rs t
+parts-read rs t e =
+    go (readAll readLine (beforeNames (beforeHanging rs))) refl (readAll readName (fromNames (beforeHanging rs))) refl (readAll readHanging (fromHanging rs)) refl e
+  where
+    go : (o : Option (List RenderLine)) → readAll readLine (beforeNames (beforeHanging rs)) ≡ o → (p : Option (List (List ℕ)))
+        → readAll readName (fromNames (beforeHanging rs)) ≡ p → (q : Option (List Hanging)) → readAll readHanging (fromHanging rs) ≡ q → parts o p q ≡ some t → Reads rs t
+    go none x p y q z e = absurd (Option·none-ne-some t e)
+    go (some ls) x none y q z e = absurd (Option·none-ne-some t e)
+    go (some ls) x (some ns) y none z e = absurd (Option·none-ne-some t e)
+    go (some ls) x (some ns) y (some vs) z e =
+        let k : sheetOf ls ns vs ≡ t = cc in
+        record {
+          lines = x ∙ ap (λ (u : Sheet). some (u .lines)) k;
+          names = y ∙ ap (λ (u : Sheet). some (u .names)) k;
+          hanging = z ∙ ap (λ (u : Sheet). some (u .overhang)) k;
+        }
 
 headed : (l : ℕ) (c : List ℕ) (rs : List Raw) (t : Sheet) → readHeaded (whole l c ∷ rs) ≡ some t → (length c ≡ 2) × Reads rs t
 unfolding readHeaded
 headed l c rs t e = go (eqb l 0x48) e
   where
-    go : (x : Bool) → (if x then counted c (readAll readLine (beforeHanging rs)) (readAll readHanging (fromHanging rs)) else none) ≡ some t
-        → (length c ≡ 2) × Reads rs t
-    go true e = let w = counted-two c (readAll readLine (beforeHanging rs)) (readAll readHanging (fromHanging rs)) t e in (w .0, (w .1, w .2))
+    go : (x : Bool) → (if x then counted c (readParts rs) else none) ≡ some t → (length c ≡ 2) × Reads rs t
+    go true e = let w = counted-two c (readParts rs) t e in (w .0, parts-read rs t (w .1))
     go false e = absurd (Option·none-ne-some _ e)
 
 -- The lines of a sheet begin behind five bytes.
@@ -573,11 +686,12 @@ behind-head s t e = go (fieldAt 0 s) refl
     go field.Broken k = absurd (Option·none-ne-some t (rw (field-broken s 0 k) at e))
     go field.End k = absurd (Option·none-ne-some t (rw (field-end s 0 k) at e))
 
--- A walk gives back the lines of a sheet that passes refusal 1, and the cells that hang from it.
+-- A walk gives back the lines of a sheet that passes refusal 1, the names that wait on it, and the cells that hang from it.
 pub walks-back : WalksBack
 unfolding walked readSheet
 walks-back s t e =
     let r = behind-head s t e in
-    let b = lines-back s (length s) 5 (t .lines) (omega arith) (r .0) in
-    let c = hangings-back s (length s) (linesEnd (length s) 5 s) (t .overhang) (omega arith) (ap (readAll readHanging) (b .1) ∙ r .1) in
-    rw (b .0, c)
+    let b = lines-back s (length s) 5 (t .lines) (omega arith) (r .lines) in
+    let d = names-back s (length s) (allLinesEnd s) (t .names) (omega arith) (ap (readAll readName) (b .1 .0) ∙ r .names) in
+    let c = hangings-back s (length s) (allNamesEnd s) (t .overhang) (omega arith) (ap (readAll readHanging) (d .1 ∙ b .1 .1) ∙ r .hanging) in
+    rw (b .0, d .0, c)

@@ -1,4 +1,4 @@
--- What stands in a sheet at a place, and a walk over all of it (document 01, "What changes shape"; request 2.1).
+-- What stands in a sheet at a place, and a walk over all of it (document 01, "What changes shape"; requests 2.1 and 2.2).
 -- Assumes nothing: these are definitions.
 use mathlib.Core.Path.{_≡_}
 use mathlib.Core.Option.{some}
@@ -20,6 +20,8 @@ use Rattle.reader.specs.declared.line.Line.{Line}
 use Rattle.reader.specs.declared.line.Line.the-variants as line
 use Rattle.reader.specs.declared.hole.Hole.{Hole}
 use Rattle.reader.specs.declared.hole.Hole.the-variants as hole
+use Rattle.reader.specs.declared.waiting.Waiting.{Waiting}
+use Rattle.reader.specs.declared.waiting.Waiting.the-variants as waiting
 use Rattle.reader.specs.declared.hanging.Hanging.{Hanging}
 use Rattle.reader.specs.declared.hanging.Hanging.the-variants as hanging
 
@@ -61,12 +63,13 @@ holedBorder start end s =
     else line.Border (getD s start 0) (start + 3) (twoAt (start + 1) s) (start + 3 + twoAt (start + 1) s) end
 
 -- a field at a place as a line: a text with its first piece, or a border with its annotation, the place of its segments and their number, and the places where
--- its holes begin and end; at a V the lines are over
+-- its holes begin and end; at an F or a V the lines are over
 abbrev pub asLine : ℕ → List ℕ → Field → Line
 asLine at s (field.At l start next) =
     if eqb l 0x4C then line.Text (pieceAt start next s) next
     else if eqb l 0x42 then plainBorder start next s
     else if eqb l 0x47 then holedBorder start next s
+    else if eqb l 0x46 then line.Names at
     else if eqb l 0x56 then line.Overhang at
     else line.Broken
 asLine at s field.Broken = line.Broken
@@ -76,14 +79,24 @@ asLine at s field.End = line.End
 unfoldable pub lineAt : ℕ → List ℕ → Line
 lineAt at s = asLine at s (fieldAt at (drop at s))
 
+-- a line as it stands in a hanging cell, on which no names wait
+abbrev pub inCell : Line → Line
+inCell (line.Text p end) = line.Text p end
+inCell (line.Border a place n holes end) = line.Border a place n holes end
+inCell (line.Names place) = line.Broken
+inCell (line.Overhang place) = line.Overhang place
+inCell line.Broken = line.Broken
+inCell line.End = line.End
+
 -- the line at a place of a hanging cell that ends at a place
 unfoldable pub lineIn : ℕ → ℕ → List ℕ → Line
-lineIn at end s = if ltb (length s) end then line.Broken else lineAt at (take end s)
+lineIn at end s = if ltb (length s) end then line.Broken else inCell (lineAt at (take end s))
 
 -- where a line that stands at a place ends
 abbrev pub endOf : ℕ → Line → ℕ
 endOf at (line.Text p end) = end
 endOf at (line.Border a place n holes end) = end
+endOf at (line.Names place) = at
 endOf at (line.Overhang place) = at
 endOf at line.Broken = at
 endOf at line.End = at
@@ -106,6 +119,30 @@ holeAt at end s =
     else if leb end at then hole.End
     else if ltb (end - at) 2 then hole.Broken
     else asHole (twoAt at s) (pieceAt (at + 2) end s)
+
+-- a field at a place as a name that waits; at a V the names are over
+abbrev pub asWaiting : ℕ → Field → Waiting
+asWaiting at (field.At l start next) =
+    if eqb l 0x46 then waiting.Name start next
+    else if eqb l 0x56 then waiting.Overhang at
+    else waiting.Broken
+asWaiting at field.Broken = waiting.Broken
+asWaiting at field.End = waiting.End
+
+-- the name that waits at a place
+unfoldable pub waitingAt : ℕ → List ℕ → Waiting
+waitingAt at s = asWaiting at (fieldAt at (drop at s))
+
+-- where a name that waits at a place ends
+abbrev pub waitEnd : ℕ → Waiting → ℕ
+waitEnd at (waiting.Name start end) = end
+waitEnd at (waiting.Overhang place) = at
+waitEnd at waiting.Broken = at
+waitEnd at waiting.End = at
+
+-- the place where the name that waits at a place ends, which is where the next one stands; the place itself where no name waits
+unfoldable pub nameEnd : ℕ → List ℕ → ℕ
+nameEnd at s = waitEnd at (waitingAt at s)
 
 -- a field as a hanging cell: its position in two bytes, its width, the rows left, then its lines
 abbrev pub asHanging : List ℕ → Field → Hanging
@@ -159,10 +196,11 @@ unfoldable pub holesFrom : ℕ → ℕ → ℕ → List ℕ → List spans.Hole
 holesFrom zero at end s = []
 holesFrom (suc fuel) at end s = holeThen s (holeAt at end s) (λ next. holesFrom fuel next end s)
 
--- a line in front of those after it; what is no line, a hanging cell and the end have none after them
+-- a line in front of those after it; what is no line, a name that waits, a hanging cell and the end have none after them
 abbrev pub lineThen : List ℕ → Line → List RenderLine → List RenderLine
 lineThen s (line.Text p end) ls = text (piecesFrom (length s) p end s) ∷ ls
 lineThen s (line.Border a place n holes end) ls = border a (partOf place (place + n) s) (holesFrom (length s) holes end s) ∷ ls
+lineThen s (line.Names place) ls = []
 lineThen s (line.Overhang place) ls = []
 lineThen s line.Broken ls = []
 lineThen s line.End ls = []
@@ -172,10 +210,27 @@ unfoldable pub linesFrom : ℕ → ℕ → List ℕ → List RenderLine
 linesFrom zero at s = []
 linesFrom (suc fuel) at s = lineThen s (lineAt at s) (linesFrom fuel (lineEnd at s) s)
 
--- the place behind them, where the hanging cells begin
+-- the place behind them, where the names that wait begin
 unfoldable pub linesEnd : ℕ → ℕ → List ℕ → ℕ
 linesEnd zero at s = at
 linesEnd (suc fuel) at s = linesEnd fuel (lineEnd at s) s
+
+-- a name in front of those that stand where it ends; what is no name, a hanging cell and the end have none after them
+abbrev pub nameThen : List ℕ → Waiting → List (List ℕ) → List (List ℕ)
+nameThen s (waiting.Name start end) ns = partOf start end s ∷ ns
+nameThen s (waiting.Overhang place) ns = []
+nameThen s waiting.Broken ns = []
+nameThen s waiting.End ns = []
+
+-- the names that wait from a place on, each where the one before it ends
+unfoldable pub namesFrom : ℕ → ℕ → List ℕ → List (List ℕ)
+namesFrom zero at s = []
+namesFrom (suc fuel) at s = nameThen s (waitingAt at s) (namesFrom fuel (nameEnd at s) s)
+
+-- the place behind them, where the hanging cells begin
+unfoldable pub namesEnd : ℕ → ℕ → List ℕ → ℕ
+namesEnd zero at s = at
+namesEnd (suc fuel) at s = namesEnd fuel (nameEnd at s) s
 
 -- a hanging cell in front of those that stand where it ends; its lines are those of the bytes up to its end
 abbrev pub hangingThen : List ℕ → Hanging → (ℕ → List spans.Hanging) → List spans.Hanging
@@ -189,10 +244,19 @@ unfoldable pub hangingsFrom : ℕ → ℕ → List ℕ → List spans.Hanging
 hangingsFrom zero at s = []
 hangingsFrom (suc fuel) at s = hangingThen s (hangingAt at s) (λ next. hangingsFrom fuel next s)
 
--- all lines of a sheet, and all cells that hang from it
-unfoldable pub walked : List ℕ → Sheet
-walked s = sheetOf (linesFrom (length s) 5 s) (hangingsFrom (length s) (linesEnd (length s) 5 s) s)
+-- the place behind all lines of a sheet
+abbrev pub allLinesEnd : List ℕ → ℕ
+allLinesEnd s = linesEnd (length s) 5 s
 
--- a walk over a sheet that passes refusal 1 gives back its lines, pieces, holes and hanging cells, in order (proved as `walks-back` in proofs/Walked.antt)
+-- the place behind all its lines and names
+abbrev pub allNamesEnd : List ℕ → ℕ
+allNamesEnd s = namesEnd (length s) (allLinesEnd s) s
+
+-- all lines of a sheet, all names that wait on it, and all cells that hang from it
+unfoldable pub walked : List ℕ → Sheet
+walked s =
+    sheetOf (linesFrom (length s) 5 s) (namesFrom (length s) (allLinesEnd s) s) (hangingsFrom (length s) (allNamesEnd s) s)
+
+-- a walk over a sheet that passes refusal 1 gives back its lines, pieces, holes, waiting names and hanging cells, in order (proved as `walks-back` in proofs/Walked.antt)
 abbrev pub WalksBack : Type 0
 WalksBack = (s : List ℕ) (t : Sheet) → readSheet s ≡ some t → walked s ≡ t

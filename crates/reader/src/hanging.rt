@@ -1,12 +1,12 @@
-// The hanging cells of a sheet by their places. The first one stands where the lines are over; the next one where a cell ends. A cell's lines are read by
-// `line::line_in`.
+// The hanging cells of a sheet by their places. The first one stands where the lines and the names that wait are over; the next one where a cell ends. A
+// cell's lines are read by `line::line_in`.
 use crate::line::lines_end;
 use crate::two::two_at;
+use crate::waiting::names_end;
 use fields::field::Field;
 use fields::field::field_at;
 ghost use mathlib.Core.Path.{_≡_};
-ghost use lib.ListN.{length};
-ghost use Rattle.reader.specs.Reading.{linesEnd, hangingAt};
+ghost use Rattle.reader.specs.Reading.{allNamesEnd, hangingAt};
 
 // A hanging cell: its position, its width, the rows left to it, and the places where its lines begin and where they and the cell end; the end of the sheet;
 // or what is no hanging cell.
@@ -53,9 +53,9 @@ pub fn hanging_at(sheet: &[u8], at: usize) -> Hanging
     }
 }
 
-// The first hanging cell of a sheet, behind its lines.
+// The first hanging cell of a sheet, behind its lines and names.
 pub fn first_hanging(sheet: &[u8]) -> Hanging
-    ensures { λ r. ⌜ r ≡ hangingAt (linesEnd (length (now (sheet .entry))) 5 (now (sheet .entry))) (now (sheet .entry)) ⌝ }
+    ensures { λ r. ⌜ r ≡ hangingAt (allNamesEnd (now (sheet .entry))) (now (sheet .entry)) ⌝ }
 {
-    hanging_at(sheet, lines_end(sheet, 5))
+    hanging_at(sheet, names_end(sheet, lines_end(sheet, 5)))
 }

@@ -24,8 +24,8 @@ pub enum Piece {
 }
 
 // A line: a text with its first piece and the place where it ends, or a border with its annotation, the place of its segments and their number, and the
-// places where its holes begin and where they and the border end; the place of the first hanging cell, where the lines are over; the end of the sheet; or
-// what is no line. The next line stands where this one ends.
+// places where its holes begin and where they and the border end; the place of the first name that waits or of the first hanging cell, where the lines are
+// over; the end of the sheet; or what is no line. The next line stands where this one ends.
 pub enum Line {
     Text {
         first: Piece,
@@ -37,6 +37,9 @@ pub enum Line {
         length: usize,
         holes: usize,
         end: usize,
+    },
+    Names {
+        place: usize,
     },
     Overhang {
         place: usize,
@@ -140,6 +143,9 @@ pub fn line_at(sheet: &[u8], at: usize) -> Line
             if letter == b'G' {
                 return holed_border(sheet, start, next);
             }
+            if letter == b'F' {
+                return Line::Names { place: at };
+            }
             if letter == b'V' {
                 return Line::Overhang { place: at };
             }
@@ -164,13 +170,14 @@ pub fn line_end(sheet: &[u8], at: usize) -> usize
             holes: _,
             end,
         } => end,
+        Line::Names { place: _ } => at,
         Line::Overhang { place: _ } => at,
         Line::Broken => at,
         Line::End => at,
     }
 }
 
-// The place behind the line at a place and all that follow it, where the hanging cells begin.
+// The place behind the line at a place and all that follow it, where the names that wait begin.
 pub fn lines_end(sheet: &[u8], at: usize) -> usize
     ensures { λ r. ⌜ r ≡ linesEnd (length (now (sheet .entry))) at (now (sheet .entry)) ⌝ }
 {
@@ -184,14 +191,18 @@ pub fn lines_end(sheet: &[u8], at: usize) -> usize
     }
 }
 
-// The line at a place of a hanging cell that ends at a place.
+// The line at a place of a hanging cell that ends at a place; no names wait in a cell, so an F field is no line there.
 pub fn line_in(sheet: &[u8], at: usize, end: usize) -> Line
     ensures { λ r. ⌜ r ≡ lineIn at end (now (sheet .entry)) ⌝ }
 {
     if sheet.len() < end {
         return Line::Broken;
     }
-    line_at(&sheet[..end], at)
+    let l = line_at(&sheet[..end], at);
+    if let Line::Names { place: _ } = l {
+        return Line::Broken;
+    }
+    l
 }
 
 // A part of the sheet's bytes, itself; nothing where the places are not in it.

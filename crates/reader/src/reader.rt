@@ -1,4 +1,4 @@
-// A reader that holds the sheet's bytes and a position: five thin functions, each over its twin that takes the slice and the number, and functions with plain
+// A reader that holds the sheet's bytes and a position: six thin functions, each over its twin that takes the slice and the number, and functions with plain
 // parameters above them, whose callers hold no reader.
 use crate::hanging::Hanging;
 use crate::hanging::hanging_at;
@@ -9,10 +9,12 @@ use crate::line::Piece;
 use crate::line::line_at;
 use crate::line::line_end;
 use crate::line::piece_at;
+use crate::waiting::Waiting;
+use crate::waiting::waiting_at;
 ghost use mathlib.Core.Path.{_≡_};
-ghost use Rattle.reader.specs.Reading.{pieceAt, lineAt, lineEnd, holeAt, hangingAt};
+ghost use Rattle.reader.specs.Reading.{pieceAt, lineAt, lineEnd, holeAt, waitingAt, hangingAt};
 
-// The sheet, and the place of a line, a piece, a hole or a hanging cell.
+// The sheet, and the place of a line, a piece, a hole, a name that waits or a hanging cell.
 pub struct Reader<'a> {
     pub sheet: &'a [u8],
     pub at: usize,
@@ -52,6 +54,13 @@ pub fn hole<'a>(r: Reader<'a>, end: usize) -> Hole
     ensures { λ h. ⌜ h ≡ holeAt (r .entry .at) end (now (r .entry .sheet)) ⌝ }
 {
     hole_at(r.sheet, r.at, end)
+}
+
+// The name that waits where the reader stands.
+pub fn waiting<'a>(r: Reader<'a>) -> Waiting
+    ensures { λ w. ⌜ w ≡ waitingAt (r .entry .at) (now (r .entry .sheet)) ⌝ }
+{
+    waiting_at(r.sheet, r.at)
 }
 
 // The hanging cell where the reader stands.

@@ -1,8 +1,9 @@
-// Reads sheets from standard input, one after the other, and prints them for a person (document 01, "the sheet"; request 2.1): a line `sheet of` and its
-// number of lines, then each line. A line of text is the word `text` and its pieces, a text as its annotation and its bytes in quotes, a name as the word
-// `name` and its bytes in quotes; a border is the word `border`, its annotation, its segments and its holes, each as the word `hole`, its column and its
-// piece. A hanging cell is a line `hanging at` with its position, its width and the rows left to it, then its lines behind two spaces. What is no sheet, no
-// line, no piece or no hole prints `broken` and ends the run, and so does a sheet that ends early. An input of more than 65,536 bytes prints `refused 1`.
+// Reads sheets from standard input, one after the other, and prints them for a person (document 01, "the sheet"; requests 2.1 and 2.2): a line `sheet of`
+// and its number of lines, then each line. A line of text is the word `text` and its pieces, a text as its annotation and its bytes in quotes, a name as the
+// word `name` and its bytes in quotes; a border is the word `border`, its annotation, its segments and its holes, each as the word `hole`, its column and its
+// piece. A name that waits is a line `waits` with the name. A hanging cell is a line `hanging at` with its position, its width and the rows left to it, then
+// its lines behind two spaces. What is no sheet, no line, no piece or no hole prints `broken` and ends the run, and so does a sheet that ends early. An input
+// of more than 65,536 bytes prints `refused 1`.
 use fields::field::Field;
 use fields::field::field_at;
 use fields::field::wide;
@@ -22,6 +23,8 @@ use reader::reader::first_line;
 use reader::reader::hole_in;
 use reader::reader::line_after;
 use reader::reader::piece_in;
+use reader::waiting::Waiting;
+use reader::waiting::waiting_at;
 ghost use Prim.Native.Nat.{_≤_};
 ghost use lib.ListN.{length};
 
@@ -167,6 +170,7 @@ fn show_line(sheet: &[u8], line: Line) -> bool {
             holes,
             end,
         } => show_border(sheet, annotation, place, holes, end),
+        Line::Names { place: _ } => false,
         Line::Overhang { place: _ } => false,
         Line::Broken => false,
         Line::End => false,
@@ -192,6 +196,24 @@ fn show_lines(sheet: &[u8], count: usize) -> usize
     at
 }
 
+// Writes the names that wait from a place on, and answers the place behind them.
+fn show_names(sheet: &[u8], at: usize) -> usize
+    requires { ⌜ at ≤ length (now sheet) ⌝ }
+    ensures { λ r. ⌜ r ≤ length (now (sheet .entry)) ⌝ }
+{
+    let mut place = at;
+    loop {
+        let name = waiting_at(sheet, place);
+        let Waiting::Name { start, end } = name else {
+            return place;
+        };
+        say(b"waits");
+        show_name(part_of(sheet, start, end));
+        say(b"\n");
+        place = end;
+    }
+}
+
 // Writes the lines of a hanging cell that ends at a place, from a place on, and says whether they reach the end.
 fn show_cell_lines(sheet: &[u8], at: usize, end: usize) -> bool {
     let mut line = line_in(sheet, at, end);
@@ -208,6 +230,9 @@ fn show_cell_lines(sheet: &[u8], at: usize, end: usize) -> bool {
                 holes: _,
                 end: next,
             } => next,
+            Line::Names { place: _ } => {
+                return false;
+            }
             Line::Overhang { place: _ } => {
                 return false;
             }
@@ -296,7 +321,7 @@ fn show_sheet(bytes: &[u8]) -> usize
     if end == 0 {
         return 0;
     }
-    show_overhang(bytes, end)
+    show_overhang(bytes, show_names(bytes, end))
 }
 
 // Writes one sheet after the other, up to the end or to the first that is broken.

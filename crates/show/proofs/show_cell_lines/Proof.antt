@@ -16,6 +16,7 @@ use Rattle.show.proofs.show_cell_lines.Tie as tie
 abbrev left : ℕ → Line → ℕ
 left end (line.Text p next) = suc (end - next)
 left end (line.Border a place n holes next) = suc (end - next)
+left end (line.Names place) = 0
 left end (line.Overhang place) = 0
 left end line.Broken = 0
 left end line.End = 0
@@ -27,6 +28,7 @@ falls at end s = go (lineIn at end s) (line-in-fits at end s)
     go : (l : Line) → LineInFits at end l → left end l < suc (end - at)
     go (line.Text p next) (h, k) = omega arith
     go (line.Border a place n holes next) (h, k) = omega arith
+    go (line.Names place) h = omega arith
     go (line.Overhang place) h = omega arith
     go line.Broken h = omega arith
     go line.End h = omega arith
@@ -67,6 +69,12 @@ enum-told-3 c = search needs
 returns-3 : tie.Need-returns-3 Inv-loop μ-loop
 returns-3 c = search needs
 
+enum-told-4 : tie.Need-enum-told-4 Inv-loop μ-loop
+enum-told-4 c = search needs
+
+returns-4 : tie.Need-returns-4 Inv-loop μ-loop
+returns-4 c = search needs
+
 slice-aggregate-say : tie.Need-slice-aggregate-say Inv-loop μ-loop
 slice-aggregate-say c = search needs
 
@@ -76,8 +84,8 @@ say-requires c κs = search needs
 show-line-requires : tie.Need-show-line-requires Inv-loop μ-loop
 show-line-requires c κs = search needs
 
-returns-4 : tie.Need-returns-4 Inv-loop μ-loop
-returns-4 c = search needs
+returns-5 : tie.Need-returns-5 Inv-loop μ-loop
+returns-5 c = search needs
 
 line-in-requires-2 : tie.Need-line-in-requires-2 Inv-loop μ-loop
 line-in-requires-2 c κs = search needs
@@ -104,10 +112,12 @@ show-cell-lines-spec =
     returns-2
     enum-told-3
     returns-3
+    enum-told-4
+    returns-4
     slice-aggregate-say
     say-requires
     show-line-requires
-    returns-4
+    returns-5
     line-in-requires-2
     loop-less
     loop-again)

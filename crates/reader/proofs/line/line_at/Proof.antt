@@ -6,7 +6,7 @@ use lib.ListN.{drop}
 use denote.Ref.{now}
 use Rattle.fields.specs.Field.{fieldAt}
 use Rattle.fields.specs.declared.field.Field.the-variants as field
-use Rattle.reader.proofs.Places.{found, line-is, line-text, line-plain, line-holed, line-over, line-none}
+use Rattle.reader.proofs.Places.{found, line-is, line-text, line-plain, line-holed, line-names, line-over, line-none}
 use Rattle.reader.proofs.line.line_at.Statement.{statement}
 use Rattle.reader.proofs.line.line_at.Tie as tie
 
@@ -42,7 +42,10 @@ returns-3 : tie.Need-returns-3
 returns-3 c = rw (c .holed-border .ensures) (line-holed _ _ _ _ _ (field-there (c .before .before .before .before)) (c .before .if3 .taken))
 
 returns-4 : tie.Need-returns-4
-returns-4 c = line-over _ _ _ _ _ (field-there (c .before .before .before .before)) (c .if4 .taken)
+returns-4 c = line-names _ _ _ _ _ (field-there (c .before .before .before .before)) (c .if4 .taken)
+
+returns-5 : tie.Need-returns-5
+returns-5 c = line-over _ _ _ _ _ (field-there (c .before .before .before .before .before)) (c .if5 .taken)
 
 enum-told : tie.Need-enum-told
 enum-told c = search needs
@@ -50,14 +53,16 @@ enum-told c = search needs
 enum-told-2 : tie.Need-enum-told-2
 enum-told-2 c = search needs
 
-returns-5 : tie.Need-returns-5
-returns-5 c = line-none _ _ _ _ _ (field-there (c .before .before .before .before)) (c .before .before .before .if1 .left) (c .before .before .if2 .left) (c .before .if3 .left) (c .if4 .left)
-
 returns-6 : tie.Need-returns-6
-returns-6 c = line-is _ _ _ (sym (c .before .before .field-at .ensures .0) ∙ c .enum-told .given .1)
+returns-6 c =
+    line-none _ _ _ _ _ (field-there (c .before .before .before .before .before))
+    (c .before .before .before .before .if1 .left) (c .before .before .before .if2 .left) (c .before .before .if3 .left) (c .before .if4 .left) (c .if5 .left)
 
 returns-7 : tie.Need-returns-7
-returns-7 c = line-is _ _ _ (sym (c .before .before .field-at .ensures .0) ∙ c .enum-told2 .given .1)
+returns-7 c = line-is _ _ _ (sym (c .before .before .field-at .ensures .0) ∙ c .enum-told .given .1)
+
+returns-8 : tie.Need-returns-8
+returns-8 c = line-is _ _ _ (sym (c .before .before .field-at .ensures .0) ∙ c .enum-told2 .given .1)
 
 pub line-at-spec : {M : Type 1} → statement M
 line-at-spec =
@@ -72,8 +77,9 @@ line-at-spec =
     holed-border-requires
     returns-3
     returns-4
+    returns-5
     enum-told
     enum-told-2
-    returns-5
     returns-6
-    returns-7)
+    returns-7
+    returns-8)

@@ -24,6 +24,9 @@ enum-told-2 c = search needs
 enum-told-3 : tie.Need-enum-told-3
 enum-told-3 c = search needs
 
+enum-told-4 : tie.Need-enum-told-4
+enum-told-4 c = search needs
+
 returns : tie.Need-returns
 returns c = line-end-is _ _ _ (sym (c .before .before .before .line-at .ensures) ∙ c .before .l .given .1)
 
@@ -39,6 +42,9 @@ returns-4 c = line-end-is _ _ _ (sym (c .before .before .line-at .ensures) ∙ c
 returns-5 : tie.Need-returns-5
 returns-5 c = line-end-is _ _ _ (sym (c .before .before .line-at .ensures) ∙ c .enum-told3 .given .1)
 
+returns-6 : tie.Need-returns-6
+returns-6 c = line-end-is _ _ _ (sym (c .before .before .line-at .ensures) ∙ c .enum-told4 .given .1)
+
 pub line-end-spec : {M : Type 1} → statement M
 line-end-spec =
     tie.close
@@ -49,8 +55,10 @@ line-end-spec =
     enum-told
     enum-told-2
     enum-told-3
+    enum-told-4
     returns
     returns-2
     returns-3
     returns-4
-    returns-5)
+    returns-5
+    returns-6)
