@@ -23,7 +23,8 @@ int main(void) {
     size_t read = fread(job, 1, sizeof job, stdin);
     uint8_t number = sheet_render(job, read, store, sizeof store, &length);
     if (number != 0) return fprintf(stderr, "refused %u\n", number), 1;
-    for (size_t at = 5; at < length; at += 3 + size_of(store + at)) { /* past the head, line by line */
+    /* Past the head, line by line; behind the lines are F fields, names that wait. */
+    for (size_t at = 5; at < length && store[at] != 'F'; at += 3 + size_of(store + at)) {
         if (store[at] == 'L') show_text(store + at);
         else show_border(store + at);
         putchar('\n');

@@ -4,13 +4,14 @@
  * and nothing else. Inputs and sheets are fields: a letter, a length of two bytes, high byte first, and that many bytes.
  *   job       W (width, flags: 1 pad, 2 allow overflow; annotation of padding), then any number of
  *             T (mode: 0 Normal, 1 Pre, 2 PreWrap; annotation, annotation of what wraps in Pre, UTF-8 text) and F (name)
- *   sheet     H (number of lines, two bytes), then so many lines, then any number of V, which H does not count
+ *   sheet     H (number of lines, two bytes), then so many lines, then any number of F, names that wait, then any number
+ *             of V; H counts the lines alone
  *   line      L, a text, of S (annotation, text) and F (name); B, a border (annotation, then a segment for each column,
  *             0 to 11); G, a border with holes (annotation, number of segments in two bytes, the segments, then for
  *             each hole, one at least, its column in two bytes and an S or F)
  *   V         a hanging cell (position, two bytes; width; rows left, 1 to 16; then its lines)
  *   cells     C (width, then lines); K, a cell that spans rows (width, number of rows, 1 to 16, then lines); a cell's
- *             lines are a sheet's without its first five bytes and without its V
+ *             lines are a sheet's without its first five bytes and without what follows its lines, F and V
  *   prefixes  P (text)
  * README.md, "The house format", says more, and which characters a text may hold.
  *
@@ -55,13 +56,14 @@ enum sheet_refusal {
                                     row and short of lines: see below */
 };
 
-/* The sheet of a job: its texts wrapped to the block's width. Refusals 1 to 5 and 8. */
+/* The sheet of a job: its texts wrapped to the block's width. Names behind its last closed word wait at the sheet's end, as
+ * F fields; names lost in a hard wrap stay lost. Refusals 1 to 5 and 8. */
 uint8_t sheet_render(const uint8_t *job, size_t job_length,
                      uint8_t *store, size_t store_length, uint64_t *length);
 
 /* The sheet with the guest sheet's lines added, each behind a prefix. Lines and prefixes (P fields) go in pairs, which
- * end with the shorter list; with `repeat_last` the last prefix repeats. The sheet's V fields are handed on as they are,
- * and the guest's are dropped. Refusals 1, 2, 3, 7, 8, 9 and 10. */
+ * end with the shorter list; with `repeat_last` the last prefix repeats. The sheet's V fields are handed on as they are;
+ * the guest's V fields and waiting names are checked and dropped. Refusals 1, 2, 3, 7, 8, 9 and 10. */
 uint8_t sheet_append_subrender(const uint8_t *sheet, size_t sheet_length,
                                const uint8_t *guest, size_t guest_length,
                                const uint8_t *prefixes, size_t prefixes_length,
@@ -89,6 +91,13 @@ uint8_t sheet_append_vert_row(const uint8_t *sheet, size_t sheet_length,
  * without it. `borders` draws the borders and edges; without it edges are spaces, no border is added, and a border above
  * is joined all the same. `annotation` marks what the call itself writes.
  *
+ * Names that wait. The F fields behind the sheet's lines go to the front of the first text line that a call adds, before
+ * its prefix and in their order; all neighbouring pieces of that line with equal annotations are then joined. A border
+ * that a call adds does not take them, also where `pad` turns it into text; a border in a guest or in a line of a row is
+ * text and does. A call that adds no text line hands them on, before the V fields. A name that waits may have 65,535
+ * bytes; the line that takes it is refused with 7 where it becomes too long. To end the waiting, cut the F fields out; to
+ * use a sheet's lines as a cell's, cut F and V fields off.
+ *
  * Cells that span rows. A K cell of n rows stands in its own row and in the n - 1 rows after it. After each row but its
  * last, what is left of it comes back as a V field at the sheet's end. Its position is the sum of the widths of the cells
  * before it in its own row, one more for each; its rows left are one fewer. Give the sheet with its V fields to the next
@@ -109,7 +118,7 @@ uint8_t sheet_append_vert_row(const uint8_t *sheet, size_t sheet_length,
  *   texts show, their names are gone. Names and annotations stay where a cell's border stands in the border below, as
  *   holes, and where with `pad` the border below becomes text.
  * - To print a sheet, give it to sheet_append_subrender as the guest of a sheet without lines, with one empty prefix that
- *   repeats: each line of the answer is a text, the borders too.
+ *   repeats: each line of the answer is a text, the borders too, and nothing follows the lines.
  * Refusal 10 is given where
  * - a G field that becomes text in a guest, a cell or a hanging cell has a hole that begins before the one ahead of it
  *   ends;

@@ -1,4 +1,4 @@
-//! The calls of document 01 with request 2.1: from the bytes of the inputs and a target
+//! The calls of document 01 with requests 2.1 and 2.2: from the bytes of the inputs and a target
 //! store to a number, a length and the store's bytes.
 
 use crate::checks;
@@ -48,7 +48,18 @@ type Laid = Result<Contents<String>, Refusal>;
 
 /// The call from a job to its sheet.
 pub fn job(bytes: &[u8], store: &mut [u8]) -> Result<Answer, Finding> {
-    Ok(settle(block(bytes)?, store))
+    job_by(Rules::STORED, bytes, store)
+}
+
+/// The same by other rules: without request 2.2 the names that would wait are lost.
+pub fn job_by(rules: Rules, bytes: &[u8], store: &mut [u8]) -> Result<Answer, Finding> {
+    let mut laid = block(bytes)?;
+    if let Ok(sheet) = &mut laid
+        && !rules.names()
+    {
+        sheet.names.clear();
+    }
+    Ok(settle(laid, store))
 }
 
 fn block(bytes: &[u8]) -> Result<Laid, Finding> {
@@ -56,8 +67,8 @@ fn block(bytes: &[u8]) -> Result<Laid, Finding> {
         Ok(job) => job,
         Err(refusal) => return Ok(Err(refusal)),
     };
-    let lines = guard::run(|| door::block(&job)).map_err(|panic| Finding(panic.message))?;
-    Ok(lines.map(Contents::from).map_err(|_| Refusal::TooNarrow))
+    let sheet = guard::run(|| door::block(&job)).map_err(|panic| Finding(panic.message))?;
+    Ok(sheet.map_err(|_| Refusal::TooNarrow))
 }
 
 /// A row call.

@@ -84,6 +84,8 @@ pub fn hanging_widths(sheet: &Contents<&[u8]>) -> Result<(), Refusal> {
 /// Refusal 3 over a sheet.
 pub fn sheet(sheet: &Contents<&[u8]>) -> Result<(), Refusal> {
     lines(&sheet.lines)?;
+    let names = sheet.names.iter().all(|name| is_plain(name));
+    refuse(!names, Refusal::StrangeCharacter)?;
     sheet.hanging.iter().try_for_each(|cell| lines(&cell.lines))
 }
 

@@ -1,6 +1,6 @@
 //! Damage to good inputs.
 
-use crate::format::{Job, Line, Part, Piece, Rules};
+use crate::format::{Job, Line, Part, Piece, Rules, push_field};
 use crate::make;
 use crate::random::Rng;
 
@@ -47,6 +47,7 @@ fn letters(rules: Rules) -> &'static [u8] {
     match rules {
         Rules::Base => b"HLSFBCWTPwtX",
         Rules::Spans => b"HLSFBCGKVGKVPgX",
+        Rules::Names => b"HLSFFFBCGKVPgX",
     }
 }
 
@@ -68,7 +69,7 @@ pub fn bytes(rng: &mut Rng, rules: Rules, bytes: &mut Vec<u8>) {
         7 => letter(rng, rules, bytes),
         8 => length(rng, rules, bytes),
         9 => repeat_field(rng, rules, bytes),
-        10 if rules == Rules::Spans => number(rng, bytes),
+        10 if rules.spans() => number(rng, bytes),
         _ => content(rng, rules, bytes),
     }
 }
@@ -148,9 +149,10 @@ pub fn value(rng: &mut Rng, rules: Rules, bytes: &mut [u8]) {
     let Some((start, end)) = a_field(rng, rules, bytes) else {
         return;
     };
-    let width = match (rules, bytes[start]) {
-        (_, b'C') | (Rules::Spans, b'K') => Some(start + 3),
-        (Rules::Spans, b'V') => Some(start + 5),
+    let width = match bytes[start] {
+        b'C' => Some(start + 3),
+        b'K' if rules.spans() => Some(start + 3),
+        b'V' if rules.spans() => Some(start + 5),
         _ => None,
     };
     let at = match bytes[start] {
@@ -186,17 +188,17 @@ fn find_fields(rules: Rules, mut bytes: &[u8], mut start: usize, found: &mut Vec
         };
         let end = start + 3 + length;
         found.push((start, end));
-        let head = match (rules, letter) {
-            (_, b'L') => 0,
-            (_, b'C') => 1,
-            (Rules::Spans, b'K') => 2,
-            (Rules::Spans, b'V') => 4,
+        let head = match letter {
+            b'L' => 0,
+            b'C' => 1,
+            b'K' if rules.spans() => 2,
+            b'V' if rules.spans() => 4,
             _ => length,
         };
         if let Some(inner) = content.get(head..) {
             find_fields(rules, inner, start + 3 + head, found);
         }
-        if (rules, *letter) == (Rules::Spans, b'G') {
+        if rules.spans() && *letter == b'G' {
             find_holes(content, start + 3, found);
         }
         bytes = after;
@@ -218,6 +220,35 @@ fn find_holes(content: &[u8], start: usize, found: &mut Vec<(usize, usize)>) {
         found.push((start + at, start + end));
         at = end + 2;
     }
+}
+
+/// Puts an F field before or after some field, inside what that one is in: where names may
+/// stand, between lines, after what hangs, in a cell, in a line. Its name can be bad, or the field
+/// broken.
+pub fn put_name(rng: &mut Rng, bytes: &mut Vec<u8>) {
+    let mut found = Vec::new();
+    find_fields(Rules::Names, bytes, 0, &mut found);
+    if found.is_empty() {
+        return bytes.push(b'F');
+    }
+    let (start, end) = rng.pick(&found);
+    let mut name: Vec<u8> = rng.pick(&["", "n", "n", "漢", "bin-07"]).into();
+    if rng.once_in(6) {
+        spoil(rng, &mut name);
+    }
+    let mut field = Vec::new();
+    push_field(&mut field, b'F', &name);
+    if rng.once_in(8) {
+        field[2] = rng.pick(&[0, 1, 2, 3, 255]);
+    }
+    let around = found.iter().filter(|(s, e)| *s < start && *e >= end);
+    for (outer, _) in around {
+        let length = u16::from_be_bytes([bytes[outer + 1], bytes[outer + 2]]);
+        let length = length.saturating_add(field.len() as u16);
+        bytes[outer + 1..outer + 3].copy_from_slice(&length.to_be_bytes());
+    }
+    let at = rng.pick(&[start, end, end]);
+    insert_all(bytes, at, &field);
 }
 
 /// Puts a bad text into a text, before one of its bytes or at the end.

@@ -12,26 +12,42 @@ use crate::WhiteSpace;
 use crate::call::Sheet;
 use crate::format::{Cell, Contents, Hanging, Hole, Job, Line, Part, Piece};
 use crate::render::Renderer;
-use std::{iter, mem, str};
+use std::fmt::Debug;
+use std::{iter, str};
 
 type Lent<'a> = Line<&'a [u8]>;
 type LentSheet<'a> = Contents<&'a [u8]>;
 type Owned = Line<String>;
 type OwnedSheet = Contents<String>;
 
-/// Runs a job's block.
-pub(crate) fn block(job: &Job<&[u8]>) -> Result<Vec<Owned>, TooNarrow> {
-    wrapped(&job.map(|bytes| utf8(bytes)))
+/// Runs a job: its block stands in a renderer, and `flush_wrapping` ends it. The renderer pads
+/// nothing, for the block does.
+pub(crate) fn block(job: &Job<&[u8]>) -> Result<OwnedSheet, TooNarrow> {
+    let mut target = SubRenderer::new(usize::from(job.width), RenderOptions::default(), Numbers);
+    target.wrapping = Some(filled(&job.map(|bytes| utf8(bytes)), |tag| vec![tag])?);
+    target.flush_wrapping()?;
+    Ok(sheet_out(target))
 }
 
-/// Runs a block: `new`, `add_text` or `add_element` a part, `into_lines`.
-/// The annotation is the tag.
+/// Runs a block alone, up to `into_lines`. The annotation is the tag.
 pub(crate) fn wrapped(job: &Job<&str>) -> Result<Vec<Owned>, TooNarrow> {
+    let lines = filled(job, |tag| tag)?.into_lines()?;
+    Ok(lines
+        .into_iter()
+        .map(|line| text_out(line, |t| t))
+        .collect())
+}
+
+/// A block that has a job's parts: `new`, then `add_text` or `add_element` a part.
+fn filled<T>(job: &Job<&str>, tag: impl Fn(u8) -> T) -> Result<WrappedBlock<T>, TooNarrow>
+where
+    T: Clone + Eq + Debug + Default,
+{
     let mut block = WrappedBlock::new(
         usize::from(job.width),
         job.pad,
         job.overflow,
-        job.annotation,
+        tag(job.annotation),
     );
     for part in &job.parts {
         match part {
@@ -40,17 +56,15 @@ pub(crate) fn wrapped(job: &Job<&str>) -> Result<Vec<Owned>, TooNarrow> {
                 first,
                 continued,
                 text,
-            } => block.add_text(text, white_space(*mode), first, continued)?,
-            Part::Name(name) => {
-                block.add_element(TaggedLineElement::FragmentStart((*name).into()));
-            }
+            } => block.add_text(text, white_space(*mode), &tag(*first), &tag(*continued))?,
+            Part::Name(name) => block.add_element(name_in(name)),
         }
     }
-    let lines = block.into_lines()?;
-    Ok(lines
-        .into_iter()
-        .map(|line| text_out(line, |t| t))
-        .collect())
+    Ok(block)
+}
+
+fn name_in<T>(name: &str) -> TaggedLineElement<T> {
+    TaggedLineElement::FragmentStart(name.into())
 }
 
 fn white_space(mode: u8) -> WhiteSpace {
@@ -79,7 +93,7 @@ pub(crate) fn subrender(
     let repeated = again.into_iter().flat_map(|last| iter::repeat(utf8(last)));
     let guest = hung(sheet, guest);
     let done = target.append_subrender(guest, given.chain(repeated));
-    sheet_out(target, done)
+    laid_out(target, done)
 }
 
 /// Runs `append_columns_with_borders`; the rowspan of a C field is 1.
@@ -117,7 +131,7 @@ impl Columns {
     pub(crate) fn run(mut self) -> OwnedSheet {
         let cells = self.cells;
         let done = self.target.append_columns_with_borders(cells, self.collapse);
-        sheet_out(self.target, done)
+        laid_out(self.target, done)
     }
 }
 
@@ -125,7 +139,7 @@ impl Columns {
 pub(crate) fn vert_row(sheet: &Sheet, old: &LentSheet, cells: &[Cell<&[u8]>]) -> OwnedSheet {
     let mut target = hung(sheet, old);
     let done = target.append_vert_row(renderers(sheet, cells));
-    sheet_out(target, done)
+    laid_out(target, done)
 }
 
 fn renderers(sheet: &Sheet, cells: &[Cell<&[u8]>]) -> impl Iterator<Item = SubRenderer<Numbers>> {
@@ -134,9 +148,10 @@ fn renderers(sheet: &Sheet, cells: &[Cell<&[u8]>]) -> impl Iterator<Item = SubRe
         .map(|cell| renderer(sheet, cell.width, &cell.lines))
 }
 
-/// A renderer that holds a sheet, hanging cells too.
+/// A renderer that holds a sheet, names that wait and hanging cells too.
 fn hung(sheet: &Sheet, contents: &LentSheet) -> SubRenderer<Numbers> {
     let mut renderer = renderer(sheet, sheet.width, &contents.lines);
+    renderer.pending_frags = contents.names.iter().map(|n| name_in(utf8(n))).collect();
     renderer.overhang_cells = contents.hanging.iter().map(hanging_in).collect();
     renderer
 }
@@ -193,17 +208,30 @@ fn piece_in(piece: &Piece<&[u8]>) -> TaggedLineElement<Vec<u8>> {
             s: utf8(text).into(),
             tag: vec![*tag],
         }),
-        Piece::Name(name) => TaggedLineElement::FragmentStart(utf8(name).into()),
+        Piece::Name(name) => name_in(utf8(name)),
     }
 }
 
-fn sheet_out(mut target: SubRenderer<Numbers>, done: Result<(), TooNarrow>) -> OwnedSheet {
-    let hanging = mem::take(&mut target.overhang_cells);
-    let lines = done.and_then(|()| target.into_lines());
-    let lines = lines.expect("a row call wraps nothing, so it is never TooNarrow");
+/// The sheet that a row call leaves.
+fn laid_out(target: SubRenderer<Numbers>, done: Result<(), TooNarrow>) -> OwnedSheet {
+    done.expect("a row call wraps nothing, so it is never TooNarrow");
+    sheet_out(target)
+}
+
+/// What stands in a renderer in which no block is open.
+fn sheet_out(target: SubRenderer<Numbers>) -> OwnedSheet {
+    assert!(target.wrapping.is_none(), "no block is open");
     Contents {
-        lines: lines.into_iter().map(line_out).collect(),
-        hanging: hanging.into_iter().map(hanging_out).collect(),
+        lines: target.lines.into_iter().map(line_out).collect(),
+        names: target.pending_frags.into_iter().map(name_out).collect(),
+        hanging: target.overhang_cells.into_iter().map(hanging_out).collect(),
+    }
+}
+
+fn name_out(element: TaggedLineElement<Vec<u8>>) -> String {
+    match element {
+        TaggedLineElement::FragmentStart(name) => name,
+        TaggedLineElement::Str(_) => unreachable!("only names wait"),
     }
 }
 

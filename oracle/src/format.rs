@@ -18,16 +18,28 @@ pub enum Refusal {
     OverhangMisfit = 10,
 }
 
-/// Whose letters are read: document 01's alone, or K, G and V of request 2.1 too.
-#[derive(Clone, Copy, Debug, PartialEq, Eq)]
+/// Which requests hold: none, document 01 alone; 2.1, with K, G and V fields; 2.2 too, with
+/// names that wait at a sheet's end.
+#[derive(Clone, Copy, Debug, PartialEq, Eq, PartialOrd, Ord)]
 pub enum Rules {
     Base,
     Spans,
+    Names,
 }
 
 impl Rules {
     /// The rules of whatever does not choose: of the stored files and of the calls today.
-    pub const STORED: Rules = Rules::Spans;
+    pub const STORED: Rules = Rules::Names;
+
+    /// Are there K, G and V fields?
+    pub fn spans(self) -> bool {
+        self >= Rules::Spans
+    }
+
+    /// Do names wait?
+    pub fn names(self) -> bool {
+        self >= Rules::Names
+    }
 }
 
 use Refusal::CrookedRecord;
@@ -90,10 +102,11 @@ pub struct Hanging<T> {
     pub lines: Vec<Line<T>>,
 }
 
-/// What a sheet holds: its lines, then the cells that hang on.
+/// What a sheet holds: its lines, then the names that wait, then the cells that hang on.
 #[derive(Clone, Debug, PartialEq, Eq)]
 pub struct Contents<T> {
     pub lines: Vec<Line<T>>,
+    pub names: Vec<T>,
     pub hanging: Vec<Hanging<T>>,
 }
 
@@ -108,6 +121,7 @@ impl<T> Contents<T> {
         };
         Contents {
             lines: map_lines(self.lines, &give),
+            names: self.names.into_iter().map(&give).collect(),
             hanging: self.hanging.into_iter().map(hung).collect(),
         }
     }
@@ -158,10 +172,11 @@ impl<T> Piece<T> {
 }
 
 impl<T> From<Vec<Line<T>>> for Contents<T> {
-    /// A sheet on which nothing hangs.
+    /// A sheet on which nothing waits or hangs.
     fn from(lines: Vec<Line<T>>) -> Contents<T> {
         Contents {
             lines,
+            names: Vec::new(),
             hanging: Vec::new(),
         }
     }
@@ -285,7 +300,7 @@ fn read_part<'a>(field: &Field<'a>) -> Read<Part<&'a [u8]>> {
     }
 }
 
-/// Reads a sheet: one H, then exactly that many L, B and G fields, then V fields.
+/// Reads a sheet: one H, then exactly that many L, B and G fields, then F fields, then V fields.
 pub fn read_sheet(bytes: &[u8], rules: Rules) -> Read<Contents<&[u8]>> {
     let fields = fields(bytes)?;
     let Some((head, rest)) = fields.split_first() else {
@@ -295,17 +310,20 @@ pub fn read_sheet(bytes: &[u8], rules: Rules) -> Read<Contents<&[u8]>> {
         return Err(CrookedRecord);
     };
     let count = usize::from(u16::from_be_bytes([high, low]));
-    let (lines, hanging) = rest.split_at_checked(count).ok_or(CrookedRecord)?;
+    let (lines, tail) = rest.split_at_checked(count).ok_or(CrookedRecord)?;
+    let waits = |field: &&Field<'_>| rules.names() && field.letter == b'F';
+    let (names, hanging) = tail.split_at(tail.iter().take_while(waits).count());
     let hanging = hanging.iter().map(|field| read_hanging(field, rules));
     Ok(Contents {
         lines: read_lines(lines, rules)?,
+        names: names.iter().map(|field| field.content).collect(),
         hanging: hanging.collect::<Read<_>>()?,
     })
 }
 
 fn read_hanging<'a>(field: &Field<'a>, rules: Rules) -> Read<Hanging<&'a [u8]>> {
-    match (rules, field.letter, field.content) {
-        (Rules::Spans, b'V', &[high, low, width, rows @ 1..=MOST_ROWS, ref lines @ ..]) => {
+    match (field.letter, field.content) {
+        (b'V', &[high, low, width, rows @ 1..=MOST_ROWS, ref lines @ ..]) if rules.spans() => {
             Ok(Hanging {
                 position: usize::from(u16::from_be_bytes([high, low])),
                 width,
@@ -334,7 +352,7 @@ fn read_line<'a>(field: &Field<'a>, rules: Rules) -> Read<Line<&'a [u8]>> {
             segments: segments.to_vec(),
             holes: Vec::new(),
         }),
-        (b'G', &[tag, high, low, ref rest @ ..]) if rules == Rules::Spans => {
+        (b'G', &[tag, high, low, ref rest @ ..]) if rules.spans() => {
             let count = usize::from(u16::from_be_bytes([high, low]));
             read_holed(tag, count, rest)
         }
@@ -408,7 +426,7 @@ pub fn read_plain_cells(bytes: &[u8], rules: Rules) -> Read<Vec<Cell<&[u8]>>> {
 fn read_cell<'a>(field: &Field<'a>, rules: Rules) -> Read<Cell<&'a [u8]>> {
     let (width, span, lines) = match (field.letter, field.content) {
         (b'C', &[width, ref lines @ ..]) => (width, None, lines),
-        (b'K', &[width, span @ 1..=MOST_ROWS, ref lines @ ..]) if rules == Rules::Spans => {
+        (b'K', &[width, span @ 1..=MOST_ROWS, ref lines @ ..]) if rules.spans() => {
             (width, Some(span), lines)
         }
         _ => return Err(CrookedRecord),
@@ -439,18 +457,19 @@ pub fn push_field(out: &mut Vec<u8>, letter: u8, content: &[u8]) {
     out.extend(content);
 }
 
-/// The bytes of a sheet on which nothing hangs, or refusal 7 or 9.
+/// The bytes of a sheet on which nothing waits or hangs, or refusal 7 or 9.
 pub fn write_sheet<T: AsRef<[u8]>>(lines: &[Line<T>]) -> Result<Vec<u8>, Refusal> {
-    write_hung(lines, &[])
+    write_parts(lines, &[], &[])
 }
 
 /// The bytes of a sheet, or refusal 7 or 9.
 pub fn write_contents<T: AsRef<[u8]>>(sheet: &Contents<T>) -> Result<Vec<u8>, Refusal> {
-    write_hung(&sheet.lines, &sheet.hanging)
+    write_parts(&sheet.lines, &sheet.names, &sheet.hanging)
 }
 
-fn write_hung<T: AsRef<[u8]>>(
+fn write_parts<T: AsRef<[u8]>>(
     lines: &[Line<T>],
+    names: &[T],
     hanging: &[Hanging<T>],
 ) -> Result<Vec<u8>, Refusal> {
     let long_line = lines.iter().any(|line| content_length(line) > MOST);
@@ -462,6 +481,9 @@ fn write_hung<T: AsRef<[u8]>>(
     push_field(&mut out, b'H', &count.to_be_bytes());
     for line in lines {
         push_line(&mut out, line);
+    }
+    for name in names {
+        push_field(&mut out, b'F', name.as_ref());
     }
     for cell in hanging {
         push_hanging(&mut out, cell);

@@ -1,5 +1,5 @@
-//! Calls whose answers were worked out by hand: places where request 2.1's prose can be
-//! misread, each smallest refusal 10, and what is near a refusal and is none.
+//! Calls whose answers were worked out by hand: places where the prose of requests 2.1 and 2.2
+//! can be misread, each smallest refusal 10, and what is near a refusal and is none.
 
 use crate::record::Kind::{self, Columns, Subrender, Vertical};
 
@@ -12,7 +12,7 @@ pub type Known = (
     Result<&'static str, u8>,
 );
 
-/// The calls, inputs and sheets in hexadecimal.
+/// The calls of request 2.1, inputs and sheets in hexadecimal.
 pub const CALLS: [Known; 43] = [
     (
         "A hanging cell's lines are taken as they are: only C and K cells are filled and stretched",
@@ -386,5 +386,190 @@ pub const CALLS: [Known; 43] = [
         Ok(
             "4800020005420004000002004c000d530002016153000500e294827847000d000003000700000053000201624c000d530002016353000500e294827942000400000100",
         ),
+    ),
+];
+
+/// The calls of request 2.2: names that wait.
+pub const NAMED_CALLS: [Known; 18] = [
+    (
+        "Waiting names stand before the prefix, and all equal neighbours of the line join",
+        Subrender,
+        [5, 2, 0],
+        &[
+            "48000200004600016e",
+            "48000200014c000a53000200615300020062",
+            "5000013e",
+        ],
+        Ok("48000200014c000b4600016e530004003e6162"),
+    ),
+    (
+        "A guest's border, now text, takes the names",
+        Subrender,
+        [5, 2, 0],
+        &["48000200004600016e", "48000200014200020000", "500000"],
+        Ok("48000200014c000b4600016e53000400e29480"),
+    ),
+    (
+        "a border that the call adds does not, padded",
+        Vertical,
+        [1, 3, 0],
+        &["48000200004600016e", ""],
+        Ok("48000200014c000753000400e294804600016e"),
+    ),
+    (
+        "nor not padded",
+        Vertical,
+        [1, 2, 0],
+        &["48000200004600016e", ""],
+        Ok("480002000142000200004600016e"),
+    ),
+    (
+        "A row's first line takes them, in the order of the fields",
+        Columns,
+        [5, 2, 0],
+        &["48000200004600016e4600016d", "430009014c00055300020061"],
+        Ok("48000200024c000d4600016e4600016d53000200614200020000"),
+    ),
+    (
+        "Only the first line takes them",
+        Vertical,
+        [1, 0, 0],
+        &[
+            "48000200004600016e",
+            "43001101 4c00055300020061 4c00055300020062",
+        ],
+        Ok("48000200024c00094600016e53000200614c00055300020062"),
+    ),
+    (
+        "A border comes first: the line behind it takes them",
+        Vertical,
+        [1, 2, 0],
+        &["48000200004600016e", "43000101 430009014c00055300020061"],
+        Ok("480002000342000200054c00094600016e53000200614200020000"),
+    ),
+    (
+        "A row without lines leaves them waiting, before what hangs",
+        Columns,
+        [5, 2, 0],
+        &["48000200004600016e56000400000102", ""],
+        Ok("480002000147000b00000100000053000200204600016e56000400000101"),
+    ),
+    (
+        "A call without lines hands them on",
+        Subrender,
+        [5, 2, 0],
+        &["48000200004600016e56000400000102", "4800020000", "500000"],
+        Ok("48000200004600016e56000400000102"),
+    ),
+    (
+        "A guest's names are dropped",
+        Subrender,
+        [5, 2, 0],
+        &["4800020000", "48000200014c000553000200614600016e", "500000"],
+        Ok("48000200014c00055300020061"),
+    ),
+    (
+        "A line without pieces takes them too",
+        Subrender,
+        [5, 2, 0],
+        &[
+            "480002000046000046000046000161",
+            "48000200014c0000",
+            "500000",
+        ],
+        Ok("48000200014c000a46000046000046000161"),
+    ),
+    (
+        "Padding comes after them",
+        Subrender,
+        [2, 3, 0],
+        &["48000200004600016e", "48000200014c0000", "500000"],
+        Ok("48000200014c000a4600016e530003002020"),
+    ),
+    (
+        "A guest's names are checked",
+        Subrender,
+        [5, 2, 0],
+        &["4800020000", "48000200004600010a", "500000"],
+        Err(3),
+    ),
+    (
+        "and so are the old sheet's",
+        Columns,
+        [5, 2, 0],
+        &["48000200004600010a", ""],
+        Err(3),
+    ),
+    (
+        "An F between lines is refused",
+        Columns,
+        [5, 2, 0],
+        &["48000200024c00004600016e4c0000", ""],
+        Err(1),
+    ),
+    (
+        "An F after a V is refused",
+        Columns,
+        [5, 2, 0],
+        &["4800020000560004000001024600016e", ""],
+        Err(1),
+    ),
+    (
+        "An F in a cell is refused",
+        Columns,
+        [5, 2, 0],
+        &["4800020000", "430005014600016e"],
+        Err(1),
+    ),
+    (
+        "An F in a hanging cell is refused",
+        Columns,
+        [5, 2, 0],
+        &["4800020000560008000001014600016e", ""],
+        Err(1),
+    ),
+];
+
+/// Jobs of request 2.2: what each shows, the job and its sheet.
+pub const NAMED_JOBS: [(&str, &str, &str); 8] = [
+    (
+        "name in a word with text: on the line",
+        "57000303000054000500000061624600016e",
+        "48000200014c000a5300030061624600016e",
+    ),
+    (
+        "after the blank that closed the word: waits",
+        "5700030300005400060000006162204600016e",
+        "48000200014c00065300030061624600016e",
+    ),
+    (
+        "Pre: the blank joined the word: on the line",
+        "5700030300005400060100006162204600016e",
+        "48000200014c000b530004006162204600016e",
+    ),
+    (
+        "an LF or tab does not let a name go",
+        "5700030300004600016e5400040100000a",
+        "48000200014c00004600016e",
+    ),
+    (
+        "names in the order of the fields, none twice",
+        "5700030300004600016e540004010000094600016d",
+        "48000200014c0007530004002020204600016e4600016d",
+    ),
+    (
+        "hard wrap: lost",
+        "57000301000054000500000061624600016e",
+        "48000200024c000553000200614c00055300020062",
+    ),
+    (
+        "PreWrap, word trimmed to nothing: lost",
+        "57000301000054000602000020c2a04600016e",
+        "4800020000",
+    ),
+    (
+        "a word without columns stays open over a blank: on the line",
+        "570003030000540006000000cc81204600016e",
+        "48000200014c000a53000300cc814600016e",
     ),
 ];

@@ -1,5 +1,5 @@
 //! The oracle: what html2text 0.17.4 answers to document 01's jobs and row calls, with cells
-//! that span rows (request 2.1) if asked.
+//! that span rows (request 2.1) and names that wait (request 2.2).
 //!
 //! `format` and `checks` read the house format, `call` runs the crate's own code
 //! and gives the answer of a call, `row` says where the crate must panic, `layout` runs it alone

@@ -11,14 +11,15 @@ use std::process::ExitCode;
 const USAGE: &str = "\
 oracle job                          answer the job on standard input
 oracle hex <hexadecimal>            answer the job given in hexadecimal
-oracle answer [base|spans]          answer the records on standard input, by document 01
-                                    or with request 2.1
+oracle answer [base|spans|names]    answer the records on standard input, by document 01,
+                                    with request 2.1, with 2.1 and 2.2
 oracle vectors <set> <seed> <count> [<longest>]
                                     write answered records; sets: short random damaged rows rows-damaged
-                                    spans spans-damaged spans-chain spans-edges; none whose inputs and sheet have more than that many bytes
+                                    spans spans-damaged spans-chain spans-edges names-short names-jobs
+                                    names names-damaged names-chain names-edges; none whose inputs and sheet have more than that many bytes
                                     but edges made by hand, which go up to 16,384, and then
                                     no store longer than 65,536
-oracle checks [spans] <seed> <count> [<longest>]
+oracle checks [spans|names] <seed> <count> [<longest>]
                                     write inputs with their refusal 0 to 4, none longer than that
                                     many bytes but edges made by hand, which go up to 8,192
 oracle segments                     print the table of border segments";
@@ -35,11 +36,13 @@ fn main() -> ExitCode {
         ["answer"] => standard_input().and_then(|bytes| answer(&bytes, Rules::STORED)),
         ["answer", "base"] => standard_input().and_then(|bytes| answer(&bytes, Rules::Base)),
         ["answer", "spans"] => standard_input().and_then(|bytes| answer(&bytes, Rules::Spans)),
+        ["answer", "names"] => standard_input().and_then(|bytes| answer(&bytes, Rules::Names)),
         ["vectors", set, seed, count] => write_vectors(set, seed, count, None),
         ["vectors", set, seed, count, longest] => {
             number(longest).and_then(|longest| write_vectors(set, seed, count, Some(longest)))
         }
         ["checks", "spans", ref rest @ ..] => write_checks(Drawn::Spans, rest),
+        ["checks", "names", ref rest @ ..] => write_checks(Drawn::Names, rest),
         ["checks", ref rest @ ..] => write_checks(Drawn::Base, rest),
         ["segments"] => show_segments(),
         _ => Err(usage()),

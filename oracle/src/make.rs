@@ -197,6 +197,60 @@ fn cut(rng: &mut Rng, job: &mut Job<Vec<u8>>) {
     job.parts.insert(place + 1, second);
 }
 
+/// Texts that close a word, leave it open, or have none: before a name at a job's end.
+const ENDS: [&str; 18] = [
+    "", " ", "  ", "a", "a ", "ab ", "abcdefgh", "a\u{a0}", " \u{a0}", "\u{301}", "\u{301} ",
+    "\u{200b}", "\u{3000}", "\u{6f22}", "\n", "\t", "a\t", "\u{7}",
+];
+
+/// The last parts of a job: names, and texts that let them wait, take them along or lose them.
+pub fn ending(rng: &mut Rng) -> Vec<Part<Vec<u8>>> {
+    let mut parts = Vec::new();
+    for _ in 0..rng.between(1, 3) {
+        if !rng.once_in(5) {
+            parts.push(end(rng));
+        }
+        parts.extend(names(rng).into_iter().map(Part::Name));
+    }
+    if rng.once_in(5) {
+        parts.push(end(rng));
+    }
+    parts
+}
+
+fn end(rng: &mut Rng) -> Part<Vec<u8>> {
+    let first = annotation(rng);
+    Part::Text {
+        mode: rng.below(3) as u8,
+        first,
+        continued: rng.pick(&[first, 3]),
+        text: rng.pick(&ENDS).into(),
+    }
+}
+
+/// A few names: short, empty, long, of wide characters; perhaps none.
+pub fn names(rng: &mut Rng) -> Vec<Vec<u8>> {
+    let count = rng.pick(&[0, 1, 1, 1, 1, 2, 2, 3, 4, 5]);
+    (0..count).map(|_| name(rng)).collect()
+}
+
+fn name(rng: &mut Rng) -> Vec<u8> {
+    let style = rng.pick(&STYLES);
+    match rng.below(24) {
+        0..4 => Vec::new(),
+        4..8 => rng.pick(&["漢", "棚 07", "\u{3000}", "n漢"]).into(),
+        8 => {
+            let bytes = rng.between(20, 120);
+            plain(rng, style, bytes)
+        }
+        9..16 => rng.pick(&["n", "m", "é", " "]).into(),
+        _ => {
+            let bytes = rng.below(7);
+            plain(rng, style, bytes)
+        }
+    }
+}
+
 /// A border of about that width.
 pub fn border(rng: &mut Rng, width: usize) -> Line<Vec<u8>> {
     let length = match rng.below(6) {

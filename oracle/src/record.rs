@@ -104,7 +104,7 @@ impl Record {
         let third_flag = flags & THIRD != 0;
         let input = |place: usize| self.inputs[place].as_slice();
         let row = match self.kind {
-            Kind::Job => return call::job(input(0), store),
+            Kind::Job => return call::job_by(rules, input(0), store),
             Kind::Subrender => Row::Subrender {
                 guest: input(1),
                 prefixes: input(2),

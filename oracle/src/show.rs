@@ -22,15 +22,22 @@ pub fn unhex(text: &str) -> Option<Vec<u8>> {
 
 /// A sheet's lines, each in words: pieces as `"text"(annotation)`, names as
 /// `#"name"`, a border as `border(annotation)` and its marks, then its holes as
-/// `place:piece`. Below them the hanging cells.
+/// `place:piece`. Below them the names that wait and the hanging cells.
 pub fn sheet(bytes: &[u8]) -> Vec<String> {
-    match format::read_sheet(bytes, Rules::Spans) {
+    match format::read_sheet(bytes, Rules::STORED) {
         Ok(sheet) => {
             let lines = sheet.lines.iter().map(line);
-            lines.chain(sheet.hanging.iter().map(hanging)).collect()
+            let names = sheet.names.iter().map(|name| waiting(name));
+            let hanging = sheet.hanging.iter().map(hanging);
+            lines.chain(names).chain(hanging).collect()
         }
         Err(refusal) => vec![format!("not a sheet: refusal {}", refusal as u8)],
     }
+}
+
+/// A name that waits as `waiting #"name"`.
+fn waiting(name: &[u8]) -> String {
+    format!("waiting {}", piece(&Piece::Name(name)))
 }
 
 /// A hanging cell as `hanging position width rows:` and its lines between bars.

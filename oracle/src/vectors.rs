@@ -4,6 +4,7 @@
 mod checks;
 mod giants;
 mod jobs;
+mod names;
 mod rows;
 mod short;
 mod spans;
@@ -22,11 +23,6 @@ use std::io::{self, Write};
 trait Set {
     /// The next question, with its store.
     fn next(&mut self) -> Result<Record, Finding>;
-
-    /// The rules that the questions are answered by.
-    fn rules(&self) -> Rules {
-        Rules::STORED
-    }
 
     /// Sees the answer, to build on it.
     fn learn(&mut self, _answered: &Record) {}
@@ -58,7 +54,7 @@ impl Tally {
 }
 
 /// The names of the sets.
-pub const SETS: [&str; 9] = [
+pub const SETS: [&str; 15] = [
     "short",
     "random",
     "damaged",
@@ -68,6 +64,12 @@ pub const SETS: [&str; 9] = [
     "spans-damaged",
     "spans-chain",
     "spans-edges",
+    "names-short",
+    "names-jobs",
+    "names",
+    "names-damaged",
+    "names-chain",
+    "names-edges",
 ];
 
 /// Writes `count` records of a set; `None` if there is no set of that name. Records whose
@@ -80,7 +82,7 @@ pub fn write(
     out: &mut impl Write,
 ) -> Option<io::Result<Tally>> {
     let mut set: Box<dyn Set> = match set {
-        "short" => Box::new(short::Short::new(seed, count)),
+        "short" => Box::new(short::Short::texts(seed, count)),
         "random" => Box::new(jobs::Random::new(seed)),
         "damaged" => Box::new(jobs::Damaged::new(seed)),
         "rows" => Box::new(rows::Rows::new(seed)),
@@ -89,6 +91,12 @@ pub fn write(
         "spans-damaged" => Box::new(spans::Damaged::new(seed)),
         "spans-chain" => Box::new(spans::Chain::new(seed)),
         "spans-edges" => Box::new(spans::Edges::new(seed)),
+        "names-short" => Box::new(short::Short::names(seed, count)),
+        "names-jobs" => Box::new(names::Jobs::new(seed)),
+        "names" => Box::new(names::Names::new(seed)),
+        "names-damaged" => Box::new(names::Damaged::new(seed)),
+        "names-chain" => Box::new(names::Chain::new(seed)),
+        "names-edges" => Box::new(names::Edges::new(seed)),
         _ => return None,
     };
     Some(write_set(&mut *set, count, longest, out))
@@ -103,7 +111,7 @@ fn write_set(
     let mut tally = Tally::default();
     while tally.total() < count {
         let answered = set.next().and_then(|mut record| {
-            let answer = answer(&mut record, set.rules())?;
+            let answer = answer(&mut record, Rules::STORED)?;
             set.learn(&record);
             Ok((record, answer))
         });
@@ -143,9 +151,9 @@ fn whole(record: &Record) -> String {
 }
 
 /// Gives a record a store: around the length that its sheet needs, if it has one.
-fn with_store(rng: &mut Rng, rules: Rules, mut record: Record) -> Result<Record, Finding> {
+fn with_store(rng: &mut Rng, mut record: Record) -> Result<Record, Finding> {
     record.store = 0;
-    answer(&mut record, rules)?;
+    answer(&mut record, Rules::STORED)?;
     let needed = record.reply.take().map_or(0, |reply| reply.answer.length);
     record.store = match rng.below(12) {
         _ if needed == 0 => rng.pick(&[0, 1, 5, 64, 300]),

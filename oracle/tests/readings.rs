@@ -9,6 +9,7 @@ use oracle::format::{Line, Piece, write_cells, write_prefixes, write_sheet};
 fn jobs() {
     let a = r#""a"(0)"#;
     let blank = r#"" "(0)"#;
+    const EMPTY_NAME: &str = "waiting #\"\"";
     let expected: [(&str, &[&str]); 14] = [
         // A T field starts continued while a wrap of Pre text stands, in any mode.
         (
@@ -35,7 +36,7 @@ fn jobs() {
         // At the edge a tab closes only a line with text.
         ("5700030100005400050100002009", &[blank]),
         // A white-space control is dropped in PreWrap but breaks a word first.
-        ("570003010000540005020000610b460000", &[a]),
+        ("570003010000540005020000610b460000", &[a, EMPTY_NAME]),
         // The word's front is trimmed up to a name, not past it.
         ("57000301000046000054000602000020c2a0", &[r#""\u{a0}"(0)"#]),
         // U+00A0 at the front is trimmed too; a word trimmed to nothing is gone.

@@ -41,7 +41,7 @@ fn accepted() -> Vec<(Record, Vec<u8>)> {
 }
 
 fn sheet(bytes: &[u8]) -> Contents<&[u8]> {
-    read_sheet(bytes, Rules::Spans).expect("a sheet")
+    read_sheet(bytes, Rules::STORED).expect("a sheet")
 }
 
 #[test]
@@ -50,13 +50,15 @@ fn known_calls() {
         let inputs = inputs.iter().map(|input| bytes(input)).collect();
         let mut record = Record::new(kind, [width, flags, annotation, 0, 0], inputs);
         record.store = STORE;
-        let answer = record.run(Rules::Spans).expect(shows);
-        let sheet = show::hex(&record.reply.unwrap().sheet);
-        let found = match answer.number {
-            0 => Ok(sheet.as_str()),
-            number => Err(number),
-        };
-        assert_eq!(found, expected, "{shows}");
+        for rules in [Rules::Spans, Rules::Names] {
+            let answer = record.run(rules).expect(shows);
+            let sheet = show::hex(&record.reply.as_ref().unwrap().sheet);
+            let found = match answer.number {
+                0 => Ok(sheet.as_str()),
+                number => Err(number),
+            };
+            assert_eq!(found, expected, "{shows}");
+        }
     }
 }
 
@@ -88,8 +90,7 @@ fn checks_have_every_number() {
 #[test]
 fn an_answer_is_a_sheet() {
     for (record, bytes) in accepted() {
-        let number = checks::number_by(Rules::Spans, Input::Sheet, &bytes);
-        assert_eq!(number, 0, "{record:?}");
+        assert_eq!(checks::number(Input::Sheet, &bytes), 0, "{record:?}");
         assert_eq!(write_contents(&sheet(&bytes)), Ok(bytes.clone()));
     }
 }

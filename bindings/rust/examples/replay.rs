@@ -2,7 +2,7 @@
 //! The records are described in oracle/README.md. Prints how many there were, how many of them have each number, and how
 //! many differ; on standard error, which they are, counted from 1:
 //!
-//!     oracle vectors spans-chain 11 1000000 65536 | cargo run --release --example replay
+//!     oracle vectors names-chain 11 1000000 65536 | cargo run --release --example replay
 
 use sheet::{Answer, RenderOptions};
 use std::collections::BTreeMap;

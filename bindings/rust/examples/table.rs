@@ -47,13 +47,15 @@ fn fields(mut bytes: &[u8]) -> impl Iterator<Item = (u8, &[u8])> {
     })
 }
 
-/// The lines that a text wraps to: a sheet's without its head.
+/// The lines that a text wraps to: a sheet's without its head and without the names that wait behind them, if it has any.
 fn wrapped(width: u8, text: &str) -> Result<Vec<u8>, Refusal> {
     let text = [&[0, 0, 0], text.as_bytes()].concat();
     let job = [field(b'W', &[width, 0, 0]), field(b'T', &text)].concat();
     let mut store = [0; 4096];
     let length = render(&job, &mut store)?;
-    Ok(store[5..length].to_vec())
+    let lines = fields(&store[5..length]).take_while(|&(letter, _)| letter != b'F');
+    let end = 5 + lines.map(|(_, line)| 3 + line.len()).sum::<usize>();
+    Ok(store[5..end].to_vec())
 }
 
 /// The C fields of a row: their widths and wrapped texts.
@@ -96,7 +98,8 @@ fn pallet() -> Result<Vec<u8>, Refusal> {
     Ok(sheet)
 }
 
-/// Prints a sheet. As a guest behind an empty prefix each of its borders becomes text, with holes or without.
+/// Prints a sheet. As a guest behind an empty prefix each of its borders becomes text, with holes or without; its waiting
+/// names and hanging cells are dropped, so that lines alone follow the head.
 fn print(sheet: &[u8]) -> Result<(), Refusal> {
     let empty = field(b'H', &[0, 0]);
     let mut store = vec![0; 65_536];

@@ -10,10 +10,10 @@
 //! | input | fields |
 //! |---|---|
 //! | job | `W` (width, flags: 1 pad, 2 allow overflow; annotation of padding), then `T` (mode: 0 Normal, 1 Pre, 2 PreWrap; annotation, annotation of what wraps in Pre, UTF-8 text) and `F` (name) |
-//! | sheet | `H` (number of lines, two bytes), then so many lines, then any number of `V`, which `H` does not count |
+//! | sheet | `H` (number of lines, two bytes), then so many lines, then any number of `F`, names that wait, then any number of `V`; `H` counts the lines alone |
 //! | lines | `L` (`S`: annotation, text; `F`: name), `B` (annotation, a segment for each column, 0 to 11) and `G`, a border with holes (annotation, number of segments in two bytes, the segments, then for each hole its column in two bytes and an `S` or `F`) |
 //! | hanging cell | `V` (position in two bytes, width, rows left, then lines) |
-//! | cells | `C` (width, then lines) and `K`, a cell that spans rows (width, number of rows, 1 to 16, then lines); a cell's lines are a sheet's without the `H` and the `V` |
+//! | cells | `C` (width, then lines) and `K`, a cell that spans rows (width, number of rows, 1 to 16, then lines); a cell's lines are a sheet's without the `H` and without the `F` and `V` behind them |
 //! | prefixes | `P` (text) |
 //!
 //! The repository's README.md says more, and which characters a text may hold. Each call writes a sheet into a
@@ -28,6 +28,33 @@
 //! let length = sheet::render(job, &mut store)?;
 //! // Two lines, each with one piece of annotation 0.
 //! assert_eq!(&store[..length], b"H\0\x02\0\x02L\0\x0bS\0\x08\0bolt M8L\0\x08S\0\x05\0zinc");
+//! # Ok::<(), sheet::Refusal>(())
+//! ```
+//!
+//! # Names that wait
+//!
+//! Names that stand behind the last closed word of a job wait at the end of its sheet, as `F` fields. They
+//! go to the front of the first text line that a later call adds to that sheet, before its prefix; all
+//! neighbouring pieces of the line with equal annotations are then joined. A border that a call adds does
+//! not take them, also where `pad` turns it into text; a border in a guest or in a line of a row is
+//! text and does. A call that adds no text line hands them on, before the `V` fields, and those
+//! of a guest are checked and dropped.
+//!
+//! ```
+//! use sheet::{RenderOptions, append_subrender, render};
+//!
+//! // Width 3, the text "ab " and the name "n": the blank closed the word, so the name waits.
+//! let job = b"W\0\x03\x03\0\0T\0\x06\0\0\0ab F\0\x01n";
+//! let mut first = [0; 64];
+//! let length = render(job, &mut first)?;
+//! assert_eq!(&first[..length], b"H\0\x02\0\x01L\0\x06S\0\x03\0abF\0\x01n");
+//! // The next line that is added takes it.
+//! let options = RenderOptions { width: 3, pad: false, borders: true, annotation: 0 };
+//! let guest = b"H\0\x02\0\x01L\0\x05S\0\x02\0c";
+//! let mut second = [0; 64];
+//! let length = append_subrender(options, &first[..length], guest, b"P\0\0", false, &mut second)?;
+//! let lines = b"H\0\x02\0\x02L\0\x06S\0\x03\0abL\0\x09F\0\x01nS\0\x02\0c";
+//! assert_eq!(&second[..length], lines);
 //! # Ok::<(), sheet::Refusal>(())
 //! ```
 
@@ -60,7 +87,8 @@ pub struct RenderOptions {
 
 /// The sheet of a job: its texts wrapped to the block's width.
 ///
-/// Refusals: 1 to 5 and 8.
+/// Names behind its last closed word wait at the sheet's end, as F fields; names lost in a hard wrap
+/// stay lost. Refusals: 1 to 5 and 8.
 ///
 /// ```
 /// use sheet::{Refusal, render};
@@ -85,8 +113,8 @@ pub fn render(job: &[u8], store: &mut [u8]) -> Answer {
 ///
 /// Lines and prefixes (P fields) go in pairs, which end with the shorter list; with
 /// `repeat_last` the last prefix repeats. A border, with holes or without, becomes text of the
-/// call's annotation. The sheet's V fields are handed on as they are, and the guest's are dropped.
-/// Refusals: 1, 2, 3, 7, 8, 9 and 10.
+/// call's annotation. The first added line takes the sheet's waiting names, the sheet's V fields are
+/// handed on as they are, and those of the guest, names and V fields, are dropped. Refusals: 1, 2, 3, 7, 8, 9 and 10.
 ///
 /// ```
 /// use sheet::{RenderOptions, append_subrender};
@@ -117,7 +145,7 @@ pub fn append_subrender(
 ///
 /// The cells' inner edges are joined to the border above, if the sheet ends in one, and to a
 /// new border below. With `collapse` the cells' own first and last borders are merged into
-/// these two. Refusals: 1, 2, 3, 6, 7, 8, 9 and 10.
+/// these two. The row's first line takes the sheet's waiting names; the new border does not. Refusals: 1, 2, 3, 6, 7, 8, 9 and 10.
 ///
 /// ```
 /// use sheet::{RenderOptions, append_columns_with_borders};
@@ -148,7 +176,7 @@ pub fn append_subrender(
 /// - The line after those of the row stands in the border below it, each piece a hole (a G field),
 ///   and is used up. With borders off it is used up too, and is not shown.
 /// - V fields stay until their rows are laid, also past the end of a table. To end a table early
-///   cut the sheet's bytes at the first V field.
+///   cut the sheet's bytes at the first V field; names that wait stand before it.
 ///
 /// ```
 /// use sheet::{RenderOptions, append_columns_with_borders};
@@ -183,8 +211,9 @@ pub fn append_columns_with_borders(
 
 /// The sheet with cells below each other (at most 16 C fields; a K is refusal 1).
 ///
-/// With borders on, a border stands between two cells and one at the end. The sheet's V fields are
-/// handed on as they are. Refusals: 1, 2, 3, 7, 8, 9 and 10.
+/// With borders on, a border stands between two cells and one at the end. The first text line takes
+/// the sheet's waiting names; these borders do not. The sheet's V fields are handed on as they are.
+/// Refusals: 1, 2, 3, 7, 8, 9 and 10.
 ///
 /// ```
 /// use sheet::{RenderOptions, append_vert_row};

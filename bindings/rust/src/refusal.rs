@@ -30,7 +30,7 @@ pub enum Refusal {
     /// 6: collapsing meets a cell, a hanging one too, that starts with a border, and the sheet does
     /// not end in one.
     NoBorderAbove,
-    /// 7: a line or a hanging cell of the result has more than 65,535 bytes.
+    /// 7: a line of the result, with the names that it took, or a hanging cell has more than 65,535 bytes.
     LongLine,
     /// 8: the sheet is longer than the store; the length needed.
     StoreShort(usize),

@@ -1,6 +1,6 @@
 //! Vectors for refusals 1 to 4 alone: single inputs and the number that each gets.
 
-use super::{Tally, spans};
+use super::{Tally, names, spans};
 use crate::checks::{self, Input, MOST_UNITS};
 use crate::format::{Cell, Line, Rules, write_cells, write_job, write_prefixes, write_sheet};
 use crate::make::STYLES;
@@ -27,27 +27,25 @@ const EDGE: usize = 8_192;
 /// The turns of request 2.1, which adds to sheets and cells alone.
 const SPAN_TURNS: [Input; 3] = [Input::Sheet, Input::Cells, Input::Sheet];
 
-/// What is drawn: document 01's inputs, or sheets and cells with K, G and V fields.
+/// The turns of request 2.2, which adds to sheets; in cells its fields are refused.
+const NAME_TURNS: [Input; 4] = [Input::Sheet, Input::Sheet, Input::Cells, Input::Sheet];
+
+/// What is drawn: document 01's inputs, sheets and cells with K, G and V fields, or sheets at
+/// whose end names wait, and cells.
 #[derive(Clone, Copy)]
 pub enum Drawn {
     Base,
     Spans,
+    Names,
 }
 
 impl Drawn {
-    /// The rules that give the numbers.
-    fn rules(self) -> Rules {
-        match self {
-            Drawn::Base => Rules::STORED,
-            Drawn::Spans => Rules::Spans,
-        }
-    }
-
     /// The rules whose letters damage writes; a job has document 01's.
     fn letters(self, input: Input) -> Rules {
-        match input {
-            Input::Job => Rules::Base,
-            _ => self.rules(),
+        match (input, self) {
+            (Input::Job, _) => Rules::Base,
+            (_, Drawn::Base | Drawn::Spans) => Rules::Spans,
+            (_, Drawn::Names) => Rules::Names,
         }
     }
 
@@ -55,13 +53,14 @@ impl Drawn {
         match self {
             Drawn::Base => &TURNS,
             Drawn::Spans => &SPAN_TURNS,
+            Drawn::Names => &NAME_TURNS,
         }
     }
 
     /// The numbers that are reached; 2 of a sheet is for its V fields.
     fn numbers(self, input: Input) -> &'static [u8] {
         match (self, input) {
-            (Drawn::Spans, Input::Sheet) => &[0, 1, 2, 3],
+            (Drawn::Spans | Drawn::Names, Input::Sheet) => &[0, 1, 2, 3],
             _ => input.numbers(),
         }
     }
@@ -70,6 +69,7 @@ impl Drawn {
         match self {
             Drawn::Base => edges::of(input),
             Drawn::Spans => spans::inputs_by_hand(input),
+            Drawn::Names => names::inputs_by_hand(input),
         }
     }
 }
@@ -92,13 +92,13 @@ pub fn write(
     });
     let edges = edges.filter(|(_, bytes)| bytes.len() <= longest.max(EDGE));
     for (input, bytes) in edges.take(count) {
-        write_check(drawn, input, &bytes, &mut tally, out)?;
+        write_check(input, &bytes, &mut tally, out)?;
     }
     let written: usize = tally.numbers.values().sum();
     let random = (0..).map(|turn| random(&mut rng, drawn, turn));
     let random = random.filter(|(_, bytes)| bytes.len() <= longest);
     for (input, bytes) in random.take(count - written) {
-        write_check(drawn, input, &bytes, &mut tally, out)?;
+        write_check(input, &bytes, &mut tally, out)?;
     }
     Ok(tally)
 }
@@ -113,13 +113,12 @@ fn random(rng: &mut Rng, drawn: Drawn, turn: usize) -> (Input, Vec<u8>) {
 }
 
 fn write_check(
-    drawn: Drawn,
     input: Input,
     bytes: &[u8],
     tally: &mut Tally,
     out: &mut impl Write,
 ) -> io::Result<()> {
-    let number = checks::number_by(drawn.rules(), input, bytes);
+    let number = checks::number(input, bytes);
     *tally.numbers.entry(number).or_default() += 1;
     out.write_all(&[input as u8])?;
     out.write_all(&three_bytes(bytes.len()))?;
@@ -131,7 +130,7 @@ fn write_check(
 fn with_number(rng: &mut Rng, drawn: Drawn, input: Input, wanted: u8) -> Vec<u8> {
     loop {
         let bytes = candidate(rng, drawn, input, wanted);
-        if checks::number_by(drawn.rules(), input, &bytes) == wanted {
+        if checks::number(input, &bytes) == wanted {
             return bytes;
         }
     }
@@ -146,10 +145,14 @@ fn candidate(rng: &mut Rng, drawn: Drawn, input: Input, wanted: u8) -> Vec<u8> {
             write_sheet(&lines).expect("a small sheet")
         }
         (Input::Cells, Drawn::Base) => cells(rng, wanted),
-        (Input::Sheet | Input::Cells, Drawn::Spans) => spanned(rng, input, wanted),
+        (Input::Sheet | Input::Cells, Drawn::Spans | Drawn::Names) => {
+            spanned(rng, drawn, input, wanted)
+        }
         (Input::Prefixes, _) => prefixes(rng, wanted),
     };
-    if wanted == 1 {
+    if wanted == 1 && matches!(drawn, Drawn::Names) && rng.once_in(2) {
+        damage::put_name(rng, &mut bytes);
+    } else if wanted == 1 {
         damage::bytes(rng, drawn.letters(input), &mut bytes);
     }
     bytes
@@ -204,9 +207,13 @@ fn cells(rng: &mut Rng, wanted: u8) -> Vec<u8> {
     write_cells(&cells)
 }
 
-/// A sheet or cells with K, G and V fields; its faults are damage that the shape does not see.
-fn spanned(rng: &mut Rng, input: Input, wanted: u8) -> Vec<u8> {
-    let mut bytes = spans::input(rng, input);
+/// A sheet or cells with K, G and V fields, a sheet with names that wait if asked; its faults
+/// are damage that the shape does not see.
+fn spanned(rng: &mut Rng, drawn: Drawn, input: Input, wanted: u8) -> Vec<u8> {
+    let mut bytes = match drawn {
+        Drawn::Names => names::input(rng, input),
+        _ => spans::input(rng, input),
+    };
     while faulty(rng, 2, wanted) || faulty(rng, 3, wanted) {
         damage::value(rng, Rules::Spans, &mut bytes);
         if rng.once_in(4) {

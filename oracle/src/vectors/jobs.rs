@@ -25,7 +25,7 @@ impl Set for Random {
     fn next(&mut self) -> Result<Record, Finding> {
         let units = make::size(&mut self.rng);
         let job = make::job(&mut self.rng, units);
-        with_store(&mut self.rng, Rules::STORED, Record::job(write_job(&job)))
+        with_store(&mut self.rng, Record::job(write_job(&job)))
     }
 }
 
@@ -54,7 +54,7 @@ impl Set for Damaged {
         let edge = self.edges.pop();
         self.by_hand = edge.is_some();
         let job = edge.unwrap_or_else(|| damaged(rng));
-        with_store(rng, Rules::STORED, Record::job(job))
+        with_store(rng, Record::job(job))
     }
 
     fn by_hand(&self) -> bool {

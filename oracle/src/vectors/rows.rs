@@ -134,7 +134,7 @@ impl Rows {
 impl Set for Rows {
     fn next(&mut self) -> Result<Record, Finding> {
         let record = self.question();
-        with_store(&mut self.rng, Rules::STORED, record)
+        with_store(&mut self.rng, record)
     }
 
     fn learn(&mut self, answered: &Record) {
@@ -171,9 +171,9 @@ impl Set for Damaged {
         let rng = &mut self.rows.rng;
         // The calls that stay whole feed the pool.
         if !rng.once_in(4) {
-            hurt(rng, Rules::STORED, &mut record);
+            hurt(rng, Rules::Spans, &mut record);
         }
-        with_store(rng, Rules::STORED, record)
+        with_store(rng, record)
     }
 
     fn learn(&mut self, answered: &Record) {

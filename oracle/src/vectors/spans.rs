@@ -1,8 +1,8 @@
-//! Row calls with K, G and V fields, answered with request 2.1. Answers are kept and come
-//! back as old sheets, as guests and in cells.
+//! Row calls with K, G and V fields (request 2.1). Answers are kept and come back as old
+//! sheets, as guests and in cells.
 
 mod chain;
-mod draw;
+pub(super) mod draw;
 mod edges;
 mod giants;
 
@@ -10,6 +10,7 @@ pub use chain::Chain;
 pub use edges::Edges;
 
 pub use edges::inputs_by_hand;
+pub(super) use edges::{changed, known, passes};
 
 use super::{Set, rows, with_store};
 use crate::call::Finding;
@@ -28,7 +29,7 @@ const GIANTS: usize = 400;
 
 /// Row calls that pass refusals 1 to 3, but for 17 cells and a K in `append_vert_row`.
 pub struct Spans {
-    rng: Rng,
+    pub(super) rng: Rng,
     kept: Vec<Sheet>,
 }
 
@@ -54,7 +55,7 @@ impl Spans {
         }
     }
 
-    fn call(&mut self, size: Size) -> Call {
+    pub(super) fn call(&mut self, size: Size) -> Call {
         let old = self.sheet(size);
         let kind = match self.rng.below(12) {
             0 | 1 => Kind::Subrender,
@@ -120,11 +121,7 @@ impl Spans {
 impl Set for Spans {
     fn next(&mut self) -> Result<Record, Finding> {
         let record = self.question();
-        with_store(&mut self.rng, Rules::Spans, record)
-    }
-
-    fn rules(&self) -> Rules {
-        Rules::Spans
+        with_store(&mut self.rng, record)
     }
 
     fn learn(&mut self, answered: &Record) {
@@ -163,11 +160,7 @@ impl Set for Damaged {
         if !rng.once_in(6) {
             rows::hurt(rng, Rules::Spans, &mut record);
         }
-        with_store(rng, Rules::Spans, record)
-    }
-
-    fn rules(&self) -> Rules {
-        Rules::Spans
+        with_store(rng, record)
     }
 
     fn learn(&mut self, answered: &Record) {
@@ -185,13 +178,13 @@ pub fn input(rng: &mut Rng, input: Input) -> Vec<u8> {
 }
 
 /// A call whose inputs are not bytes yet; a kind leaves out what it does not take.
-struct Call {
-    kind: Kind,
-    params: [u8; 5],
-    old: Sheet,
-    guest: Sheet,
-    prefixes: Vec<Vec<u8>>,
-    cells: Cells,
+pub(super) struct Call {
+    pub(super) kind: Kind,
+    pub(super) params: [u8; 5],
+    pub(super) old: Sheet,
+    pub(super) guest: Sheet,
+    pub(super) prefixes: Vec<Vec<u8>>,
+    pub(super) cells: Cells,
 }
 
 impl Call {
@@ -206,7 +199,7 @@ impl Call {
             }
     }
 
-    fn record(&self) -> Record {
+    pub(super) fn record(&self) -> Record {
         let old = bytes(&self.old);
         let mut params = self.params;
         let inputs = match self.kind {
@@ -228,24 +221,24 @@ fn has_holes(lines: &Lines) -> bool {
     lines.iter().any(holed)
 }
 
-fn bytes(sheet: &Sheet) -> Vec<u8> {
+pub(super) fn bytes(sheet: &Sheet) -> Vec<u8> {
     write_contents(sheet).expect("a small sheet")
 }
 
 /// A sheet that the oracle wrote.
-fn owned(bytes: &[u8]) -> Sheet {
-    let sheet = read_sheet(bytes, Rules::Spans).expect("an answer is a sheet");
+pub(super) fn owned(bytes: &[u8]) -> Sheet {
+    let sheet = read_sheet(bytes, Rules::STORED).expect("an answer is a sheet");
     sheet.map(<[u8]>::to_vec)
 }
 
 /// The width of a cell that holds these lines.
-fn natural_width(lines: &Lines) -> u8 {
+pub(super) fn natural_width(lines: &Lines) -> u8 {
     let natural = lines.iter().map(rows::columns_of).max().unwrap_or(0);
     natural.clamp(1, 255) as u8
 }
 
 /// A width, flags, annotation.
-fn params(rng: &mut Rng, size: Size) -> [u8; 5] {
+pub(super) fn params(rng: &mut Rng, size: Size) -> [u8; 5] {
     let width = match size {
         Size::Tiny => rng.between(1, 9),
         Size::Usual if rng.once_in(20) => rng.between(1, 255),

@@ -70,11 +70,11 @@ impl Chain {
 
     /// Goes on with the sheet that a call gives, or with a new chain.
     fn go_on(&mut self, mut record: Record) -> Result<(), Finding> {
-        answer(&mut record, Rules::Spans)?;
+        answer(&mut record, Rules::STORED)?;
         if let Some(reply) = &record.reply {
             record.store = reply.answer.length;
         }
-        answer(&mut record, Rules::Spans)?;
+        answer(&mut record, Rules::STORED)?;
         let reply = record.reply.expect("an answered record");
         self.plan.calls -= 1;
         let ends = self.plan.calls == 0 || reply.sheet.len() > LONG;
@@ -91,11 +91,7 @@ impl Set for Chain {
     fn next(&mut self) -> Result<Record, Finding> {
         let record = self.call().record();
         self.go_on(record.clone())?;
-        with_store(&mut self.rng, Rules::Spans, record)
-    }
-
-    fn rules(&self) -> Rules {
-        Rules::Spans
+        with_store(&mut self.rng, record)
     }
 }
 

@@ -262,5 +262,9 @@ pub fn sheet(rng: &mut Rng, size: Size) -> Sheet {
     } else {
         hanging(rng, size)
     };
-    Contents { lines, hanging }
+    Contents {
+        lines,
+        names: Vec::new(),
+        hanging,
+    }
 }

@@ -48,8 +48,8 @@ impl Edges {
 }
 
 /// Is a call short, and does it pass refusals 1 to 3?
-fn passes(mut record: Record) -> bool {
-    record.weight() <= SHORT && answer(&mut record, Rules::Spans).is_ok_and(|number| number > 3)
+pub fn passes(mut record: Record) -> bool {
+    record.weight() <= SHORT && answer(&mut record, Rules::STORED).is_ok_and(|number| number > 3)
 }
 
 impl Set for Edges {
@@ -60,14 +60,10 @@ impl Set for Edges {
             Some(record) => record.clone(),
             None => {
                 let place = rng.pick(&self.good);
-                changed(rng, self.calls[place].clone())
+                changed(rng, Rules::Spans, self.calls[place].clone())
             }
         };
-        with_store(rng, Rules::Spans, record)
-    }
-
-    fn rules(&self) -> Rules {
-        Rules::Spans
+        with_store(rng, record)
     }
 
     fn by_hand(&self) -> bool {
@@ -75,14 +71,14 @@ impl Set for Edges {
     }
 }
 
-/// Other flags, another width or annotation, or damage in one place.
-fn changed(rng: &mut Rng, mut record: Record) -> Record {
+/// Other flags, another width or annotation, or damage in one place with letters of these rules.
+pub fn changed(rng: &mut Rng, rules: Rules, mut record: Record) -> Record {
     match rng.below(8) {
         0..4 => record.params[1] ^= rng.pick(&[PAD, BORDERS, THIRD]),
         4 => record.params[rng.pick(&[0, 2])] = rng.pick(&[0, 1, 2, 3, 255]),
         _ => {
             let place = rng.below(record.inputs.len());
-            damage::bytes(rng, Rules::Spans, &mut record.inputs[place]);
+            damage::bytes(rng, rules, &mut record.inputs[place]);
         }
     }
     if record.kind == Kind::Vertical {
@@ -134,7 +130,9 @@ pub fn inputs_by_hand(input: Input) -> Vec<Vec<u8>> {
 }
 
 /// A known call, and the same with each flag changed.
-fn known((_, kind, [width, flags, annotation], inputs, _): &crate::known::Known) -> Vec<Record> {
+pub fn known(
+    (_, kind, [width, flags, annotation], inputs, _): &crate::known::Known,
+) -> Vec<Record> {
     let bytes = |input: &&str| show::unhex(input).expect("hexadecimal");
     let inputs: Vec<Vec<u8>> = inputs.iter().map(bytes).collect();
     let third = if *kind == Kind::Vertical { 0 } else { THIRD };

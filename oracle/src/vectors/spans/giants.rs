@@ -178,7 +178,13 @@ fn hung(position: usize, width: usize, rows: u8, lines: Lines) -> Vec<u8> {
 }
 
 fn sheet(lines: Lines, hanging: Vec<Hanging<Vec<u8>>>) -> Vec<u8> {
-    write_contents(&Contents { lines, hanging }).expect("an input is a good sheet")
+    let names = Vec::new();
+    let sheet = Contents {
+        lines,
+        names,
+        hanging,
+    };
+    write_contents(&sheet).expect("an input is a good sheet")
 }
 
 fn text_line(length: usize) -> Line<Vec<u8>> {
