@@ -17,9 +17,8 @@ use Rattle.fields.proofs.Back.{Every}
 use Rattle.fields.proofs.Readings.{read-first, read-on, read-size}
 use Rattle.rows.proofs.Reading.{some-of, GoodCell, sheet-reads, sheet-from, cells-reads, plain-reads, cells-from}
 use Rattle.fields.specs.Spans.{Sheet, Cell, readSheet, readCellContent, readSpanContent, readCell, readCells, readPlainCell, readPlainCells, wideHanging, wide, readableSheet, readableCell}
-use Rattle.fields.specs.SpanRefusals.{cellsRefusal, plainCellsRefusal}
+use Rattle.fields.specs.SpanRefusals.{sheetRefusal, cellsRefusal, plainCellsRefusal}
 use Rattle.fields.specs.Places.{CellsFrom}
-use Rattle.rows.specs.Answer.{sheetRefusal}
 use Rattle.rows.specs.Fine.{FineSheet, FineCell}
 use Rattle.fields.proofs.SpansBack.{GoodSheet}
 
@@ -42,7 +41,7 @@ passed (some a) w x e = let (h, k) = two-tests (w a) (x a) e in record { one = a
 
 -- ---- a sheet
 
--- it is read, its V fields have a width, and its texts are readable
+-- it is read, its V fields have a width, and its texts and names are readable
 pub record SheetPasses (s : List ℕ) : Type 0 where
   pub sheet : Sheet
   pub reads : readSheet s ≡ some sheet

@@ -18,30 +18,29 @@ use Rattle.fields.proofs.Fields.{raws-cons}
 use Rattle.fields.proofs.Readings.{read-size}
 use Rattle.fields.proofs.Sheets.{Headed, head-left, sized, too-many, not-too-many}
 use Rattle.fields.proofs.Texts.{rest}
-use Rattle.fields.specs.Spans.{RenderLine, Hanging, Sheet, sheetOf, readLine, readHanging, beforeHanging, fromHanging, counted, readHeaded, readSheet, readCell, readCells, readPlainCell, readPlainCells, wide, readableCell}
-use Rattle.fields.specs.SpanRefusals.{linesRefusal, hangingRefusal, overhangRefusal, cellRefusal, plainCellRefusal, cellsRefusal, plainCellsRefusal}
-use Rattle.rows.specs.Answer.{sheetRefusal}
+use Rattle.fields.specs.Spans.{RenderLine, Hanging, Sheet, sheetOf, readLine, readName, readHanging, beforeHanging, fromHanging, beforeNames, fromNames}
+use Rattle.fields.specs.Spans.{parts, counted, readParts, readHeaded, readSheet, readCell, readCells, readPlainCell, readPlainCells, wide, readableCell}
+use Rattle.fields.specs.SpanRefusals.{linesRefusal, namesRefusal, hangingRefusal, overhangRefusal, sheetRefusal, cellRefusal, plainCellRefusal, cellsRefusal, plainCellsRefusal}
 use Rattle.rows.proofs.Refusing.{sheet-walk, sheet-miscounts, cells-all, plain-cells-all}
-use Rattle.checks.specs.Split.{SplitAt, FindsHanging, countedRefusal}
-use Rattle.checks.specs.declared.sheet.Split.{Split}
+use Rattle.checks.specs.Split.{BodyAt, PartsIn, FindsParts, partsRefusal, countedRefusal}
+use Rattle.checks.specs.declared.sheet.Body.{Body}
+use Rattle.checks.specs.declared.sheet.Parts.{Parts}
 
 -- ---- the head
 
 -- what says how many lines follow has two bytes
-counted-two : (s : List ℕ) (o : Option (List RenderLine)) (q : Option (List Hanging)) → (length s ≡ 2 → ⊥) → counted s o q ≡ none
-counted-two s none q h = refl
-counted-two s (some ls) none h = refl
-counted-two [] (some ls) (some vs) h = refl
-counted-two (a ∷ []) (some ls) (some vs) h = refl
-counted-two (a ∷ b ∷ []) (some ls) (some vs) h = absurd (h refl)
-counted-two (a ∷ b ∷ x ∷ s) (some ls) (some vs) h = refl
+counted-two : (s : List ℕ) (o : Option Sheet) → (length s ≡ 2 → ⊥) → counted s o ≡ none
+counted-two s none h = refl
+counted-two [] (some t) h = refl
+counted-two (a ∷ []) (some t) h = refl
+counted-two (a ∷ b ∷ []) (some t) h = absurd (h refl)
+counted-two (a ∷ b ∷ x ∷ s) (some t) h = refl
 
 -- a first field that is no head
 headless : (l : ℕ) (s : List ℕ) (rs : List Raw) → (l ≡ 0x48 → length s ≡ 2 → ⊥) → readHeaded (whole l s ∷ rs) ≡ none
 unfolding readHeaded
 headless l s rs h =
-    by-if (λ (o : Option Sheet). o ≡ none) (eqb l 0x48)
-    (λ e. counted-two s (readAll readLine (beforeHanging rs)) (readAll readHanging (fromHanging rs)) (h (eqb-true l 0x48 e))) (λ e. refl)
+    by-if (λ (o : Option Sheet). o ≡ none) (eqb l 0x48) (λ e. counted-two s (readParts rs) (h (eqb-true l 0x48 e))) (λ e. refl)
 
 unheaded : (s : List ℕ) → (Headed s → ⊥) → readHeaded (raws s) ≡ none
 unfolding readHeaded raws rawsF
@@ -63,95 +62,107 @@ no-head s h = rw (unheaded s h)
 
 -- ---- behind the head
 
-module _ (b : List ℕ) (r : Split) (f : SplitAt b r) (n : ℕ) where
+module _ (b : List ℕ) (r : Body) (f : BodyAt b r) (n : ℕ) where
   -- another number of lines than the head says
   pub wrong-count : (r .count ≡ n → ⊥) → 1 ≡ countedRefusal n (raws b)
   unfolding countedRefusal
-  wrong-count k = rw (ne-eqb (length (beforeHanging (raws b))) n (λ e. k (f .count ∙ e)))
+  wrong-count k = rw (ne-eqb (length (beforeNames (beforeHanging (raws b)))) n (λ e. k (f .count ∙ e)))
 
-  -- as many lines as the head says, then V fields
-  pub right-count : (x y : ℕ) → r .count ≡ n → x ≡ linesRefusal (raws (take (r .lines) b))
-      → y ≡ firstOver hangingRefusal (raws (take (length b - r .lines) (drop (r .lines) b))) → firstOf x y ≡ countedRefusal n (raws b)
+  -- as many lines as the head says, then F fields, then V fields
+  pub right-count : (x y z : ℕ) → r .count ≡ n → x ≡ linesRefusal (raws (take (r .names) b)) → y ≡ namesRefusal (raws (part (r .names) (r .hanging) b))
+      → z ≡ firstOver hangingRefusal (raws (take (length b - r .hanging) (drop (r .hanging) b))) → firstOf x (firstOf y z) ≡ countedRefusal n (raws b)
   unfolding countedRefusal overhangRefusal
-  right-count x y k ex ey =
-      let lines : x ≡ linesRefusal (beforeHanging (raws b)) = ex ∙ ap linesRefusal (f .before) in
-      let hung : y ≡ firstOver hangingRefusal (fromHanging (raws b)) = rw (rest b (r .lines)) at ey ∙ ap (firstOver hangingRefusal) (f .hung) in
-      rw (eq-eqb (length (beforeHanging (raws b))) n (sym (f .count) ∙ k)) (ap₂ firstOf lines hung)
+  right-count x y z k ex ey ez =
+      let lines : x ≡ linesRefusal (beforeNames (beforeHanging (raws b))) = ex ∙ ap linesRefusal (f .lines) in
+      let names : y ≡ namesRefusal (fromNames (beforeHanging (raws b))) = ey ∙ ap namesRefusal (f .names) in
+      let hung : z ≡ firstOver hangingRefusal (fromHanging (raws b)) = rw (rest b (r .hanging)) at ez ∙ ap (firstOver hangingRefusal) (f .hung) in
+      rw (eq-eqb (length (beforeNames (beforeHanging (raws b)))) n (sym (f .count) ∙ k)) (ap₂ firstOf lines (ap₂ firstOf names hung))
 
-counts-right : (n : ℕ) (rs : List Raw) → eqb (length (beforeHanging rs)) n ≡ true
-    → countedRefusal n rs ≡ firstOf (linesRefusal (beforeHanging rs)) (overhangRefusal (fromHanging rs))
+counts-right : (n : ℕ) (rs : List Raw) → eqb (length (beforeNames (beforeHanging rs))) n ≡ true → countedRefusal n rs ≡ partsRefusal rs
 unfolding countedRefusal
 counts-right n rs k = rw k
 
-counts-wrong : (n : ℕ) (rs : List Raw) → eqb (length (beforeHanging rs)) n ≡ false → countedRefusal n rs ≡ 1
+counts-wrong : (n : ℕ) (rs : List Raw) → eqb (length (beforeNames (beforeHanging rs))) n ≡ false → countedRefusal n rs ≡ 1
 unfolding countedRefusal
 counts-wrong n rs k = rw k
 
 -- A head, and the fields behind it.
 pub headed-sheet : (s : List ℕ) → Headed s → (n : ℕ) → n ≡ getD s 3 0 * 256 + getD s 4 0
     → countedRefusal n (raws (take (length s - 5) (drop 5 s))) ≡ sheetRefusal s
-headed-sheet s h n e = rw (rest s 5) (go (eqb (length (beforeHanging (raws (drop 5 s)))) n) refl)
+headed-sheet s h n e = rw (rest s 5) (go (eqb (length (beforeNames (beforeHanging (raws (drop 5 s))))) n) refl)
   where
-    go : (t : Bool) → eqb (length (beforeHanging (raws (drop 5 s)))) n ≡ t → countedRefusal n (raws (drop 5 s)) ≡ sheetRefusal s
+    go : (t : Bool) → eqb (length (beforeNames (beforeHanging (raws (drop 5 s))))) n ≡ t → countedRefusal n (raws (drop 5 s)) ≡ sheetRefusal s
     go true k =
         let rs = raws (drop 5 s) in
-        counts-right n rs k ∙ sheet-walk (getD s 3 0) (getD s 4 0) rs s (head-left s h) (eqb-true (length (beforeHanging rs)) n k ∙ e)
+        counts-right n rs k ∙ sheet-walk (getD s 3 0) (getD s 4 0) rs s (head-left s h) (eqb-true (length (beforeNames (beforeHanging rs))) n k ∙ e)
     go false k =
         let rs = raws (drop 5 s) in
-        counts-wrong n rs k ∙ sheet-miscounts (getD s 3 0) (getD s 4 0) rs s (head-left s h) (λ x. eqb-false (length (beforeHanging rs)) n k (x ∙ sym e))
+        counts-wrong n rs k
+        ∙ sheet-miscounts (getD s 3 0) (getD s 4 0) rs s (head-left s h) (λ x. eqb-false (length (beforeNames (beforeHanging rs))) n k (x ∙ sym e))
 
 -- ---- a sheet that is read
 
--- its head, its lines and its V fields
-record SheetRead (bs : List ℕ) (t : Sheet) : Type 0 where
-  long : 5 ≤ length bs
-  head : getD bs 3 0 * 256 + getD bs 4 0 ≡ length (t .lines)
-  lines : readAll readLine (beforeHanging (raws (drop 5 bs))) ≡ some (t .lines)
-  hung : readAll readHanging (fromHanging (raws (drop 5 bs))) ≡ some (t .overhang)
+-- its three parts
+record PartsRead (rs : List Raw) (t : Sheet) : Type 0 where
+  lines : readAll readLine (beforeNames (beforeHanging rs)) ≡ some (t .lines)
+  names : readAll readName (fromNames (beforeHanging rs)) ≡ some (t .names)
+  hung : readAll readHanging (fromHanging rs) ≡ some (t .overhang)
 
-record Counts (s : List ℕ) (o : Option (List RenderLine)) (q : Option (List Hanging)) (t : Sheet) : Type 0 where
+-- parts that make a sheet are the sheet's
+parts-are : (o : Option (List RenderLine)) (p : Option (List (List ℕ))) (q : Option (List Hanging)) (t : Sheet) → parts o p q ≡ some t
+    → (o ≡ some (t .lines)) × (p ≡ some (t .names)) × (q ≡ some (t .overhang))
+parts-are none p q t e = absurd (let z : _≡_ {A = ℕ} 0 1 = cc in omega arith)
+parts-are (some ls) none q t e = absurd (let z : _≡_ {A = ℕ} 0 1 = cc in omega arith)
+parts-are (some ls) (some ns) none t e = absurd (let z : _≡_ {A = ℕ} 0 1 = cc in omega arith)
+parts-are (some ls) (some ns) (some vs) t e =
+    let same : sheetOf ls ns vs ≡ t = cc in
+    (ap (λ (x : Sheet). some (x .lines)) same, ap (λ (x : Sheet). some (x .names)) same, ap (λ (x : Sheet). some (x .overhang)) same)
+
+parts-read : (rs : List Raw) (t : Sheet) → readParts rs ≡ some t → PartsRead rs t
+parts-read rs t e =
+    let (a, b, c) = parts-are (readAll readLine (beforeNames (beforeHanging rs))) (readAll readName (fromNames (beforeHanging rs))) (readAll readHanging (fromHanging rs)) t e in
+    record { lines = a; names = b; hung = c }
+
+-- two bytes count the lines
+record Counts (s : List ℕ) (o : Option Sheet) (t : Sheet) : Type 0 where
   size : length s ≡ 2
   head : getD s 0 0 * 256 + getD s 1 0 ≡ length (t .lines)
-  lines : o ≡ some (t .lines)
-  hung : q ≡ some (t .overhang)
+  same : o ≡ some t
 
-counts : (s : List ℕ) (o : Option (List RenderLine)) (q : Option (List Hanging)) (t : Sheet) → counted s o q ≡ some t → Counts s o q t
-counts s none q t e = absurd (let z : _≡_ {A = ℕ} 0 1 = cc in omega arith)
-counts s (some ls) none t e = absurd (let z : _≡_ {A = ℕ} 0 1 = cc in omega arith)
-counts [] (some ls) (some vs) t e = absurd (let z : _≡_ {A = ℕ} 0 1 = cc in omega arith)
-counts (a ∷ []) (some ls) (some vs) t e = absurd (let z : _≡_ {A = ℕ} 0 1 = cc in omega arith)
-counts (a ∷ b ∷ []) (some ls) (some vs) t e = go (eqb (a * 256 + b) (length ls)) refl e
+counts : (s : List ℕ) (o : Option Sheet) (t : Sheet) → counted s o ≡ some t → Counts s o t
+counts s none t e = absurd (let z : _≡_ {A = ℕ} 0 1 = cc in omega arith)
+counts [] (some u) t e = absurd (let z : _≡_ {A = ℕ} 0 1 = cc in omega arith)
+counts (a ∷ []) (some u) t e = absurd (let z : _≡_ {A = ℕ} 0 1 = cc in omega arith)
+counts (a ∷ b ∷ []) (some u) t e = go (eqb (a * 256 + b) (length (u .lines))) refl e
   where
-    go : (k : Bool) → eqb (a * 256 + b) (length ls) ≡ k → (if k then some (sheetOf ls vs) else none) ≡ some t → Counts (a ∷ b ∷ []) (some ls) (some vs) t
+    go : (k : Bool) → eqb (a * 256 + b) (length (u .lines)) ≡ k → (if k then some u else none) ≡ some t → Counts (a ∷ b ∷ []) (some u) t
     go true k e =
-        let same : sheetOf ls vs ≡ t = cc in
-        record {
-          size = refl;
-          head = eqb-true (a * 256 + b) (length ls) k ∙ ap (λ (x : Sheet). length (x .lines)) same;
-          lines = ap (λ (x : Sheet). some (x .lines)) same;
-          hung = ap (λ (x : Sheet). some (x .overhang)) same;
-        }
+        let same : u ≡ t = cc in
+        record { size = refl; head = eqb-true (a * 256 + b) (length (u .lines)) k ∙ ap (λ (x : Sheet). length (x .lines)) same; same = e }
     go false k e = absurd (let z : _≡_ {A = ℕ} 0 1 = cc in omega arith)
-counts (a ∷ b ∷ c ∷ s) (some ls) (some vs) t e = absurd (let z : _≡_ {A = ℕ} 0 1 = cc in omega arith)
+counts (a ∷ b ∷ c ∷ s) (some u) t e = absurd (let z : _≡_ {A = ℕ} 0 1 = cc in omega arith)
 
-heads : (l : ℕ) (c : List ℕ) (rs : List Raw) (t : Sheet) → readHeaded (whole l c ∷ rs) ≡ some t
-    → Counts c (readAll readLine (beforeHanging rs)) (readAll readHanging (fromHanging rs)) t
+heads : (l : ℕ) (c : List ℕ) (rs : List Raw) (t : Sheet) → readHeaded (whole l c ∷ rs) ≡ some t → Counts c (readParts rs) t
 unfolding readHeaded
 heads l c rs t e = go (eqb l 0x48) e
   where
-    go : (b : Bool) → (if b then counted c (readAll readLine (beforeHanging rs)) (readAll readHanging (fromHanging rs)) else none) ≡ some t
-        → Counts c (readAll readLine (beforeHanging rs)) (readAll readHanging (fromHanging rs)) t
-    go true e = counts c (readAll readLine (beforeHanging rs)) (readAll readHanging (fromHanging rs)) t e
+    go : (b : Bool) → (if b then counted c (readParts rs) else none) ≡ some t → Counts c (readParts rs) t
+    go true e = counts c (readParts rs) t e
     go false e = absurd (let z : _≡_ {A = ℕ} 0 1 = cc in omega arith)
 
+-- its head, and the parts behind it
+record SheetRead (bs : List ℕ) (t : Sheet) : Type 0 where
+  long : 5 ≤ length bs
+  head : getD bs 3 0 * 256 + getD bs 4 0 ≡ length (t .lines)
+  behind : PartsRead (raws (drop 5 bs)) t
+
 -- two bytes of a head, and the bytes after them
-after-head : (l h o n : ℕ) (rest : List ℕ) (t : Sheet) → n ≡ 2 → n ≤ length rest
-    → Counts (take n rest) (readAll readLine (beforeHanging (raws (drop n rest)))) (readAll readHanging (fromHanging (raws (drop n rest)))) t
+after-head : (l h o n : ℕ) (rest : List ℕ) (t : Sheet) → n ≡ 2 → n ≤ length rest → Counts (take n rest) (readParts (raws (drop n rest))) t
     → SheetRead (l ∷ h ∷ o ∷ rest) t
 after-head l h o n [] t e k c = absurd (omega arith)
 after-head l h o n (a ∷ []) t e k c = absurd (omega arith)
 after-head l h o n (a ∷ b ∷ rest) t e k c =
-    record { long = omega arith; head = rw e at (c .head); lines = rw e at (c .lines); hung = rw e at (c .hung) }
+    record { long = omega arith; head = rw e at (c .head); behind = parts-read (raws rest) t (rw e at (c .same)) }
 
 sheet-read : (bs : List ℕ) (t : Sheet) → readSheet bs ≡ some t → SheetRead bs t
 unfolding readSheet readHeaded raws rawsF
@@ -169,28 +180,41 @@ sheet-read (l ∷ h ∷ o ∷ rest) t e = go (leb (h * 256 + o) (length rest)) r
     go false k = absurd (let z : none ≡ some t = rw k at e in let z : _≡_ {A = ℕ} 0 1 = cc in omega arith)
 
 -- Bytes without a head are no sheet.
-pub short-sheet : (s : List ℕ) (r : ℕ) → length s < 5 → FindsHanging s r
+pub short-sheet : (s : List ℕ) (r : Parts) → length s < 5 → FindsParts s r
 short-sheet s r h t e = absurd (omega (arith, sheet-read s t e .long))
 
--- The place behind the head where the fields are split.
-pub behind-head : (s : List ℕ) (r : Split) → 5 ≤ length s → SplitAt (take (length s - 5) (drop 5 s)) r → 5 + r .lines ≤ length s
-behind-head s r h f =
-    let g : SplitAt (drop 5 s) r = rw (rest s 5) at f in
-    omega (arith, g .inside, length-drop 5 s)
+-- the places behind a head
+abbrev pub placed : Body → Parts
+placed r = record { names = 5 + r .names; hanging = 5 + r .hanging }
 
--- The lines and the V fields of a sheet, by their places.
-pub split-sheet : (s : List ℕ) (r : Split) → 5 ≤ length s → SplitAt (take (length s - 5) (drop 5 s)) r → getD s 3 0 < 256 → getD s 4 0 < 256
-    → FindsHanging s (5 + r .lines)
-split-sheet s r h f x y t e =
-    let p = sheet-read s t e in
-    let g : SplitAt (drop 5 s) r = rw (rest s 5) at f in
-    let d : 5 + r .lines - 5 ≡ r .lines = omega arith in
-    let fields : raws (part 5 (5 + r .lines) s) ≡ beforeHanging (raws (drop 5 s)) = rw d (g .before) in
-    record {
-      lines = record { order = omega arith; inside = omega (arith, g .inside, length-drop 5 s); reads = ap (readAll readLine) fields ∙ p .lines };
-      hung = record { reads = ap (λ (b : List ℕ). readAll readHanging (raws b)) (sym (drop-drop (r .lines) 5 s)) ∙ ap (readAll readHanging) (g .hung) ∙ p .hung };
-      few = omega (arith, ap length fields, read-size readLine (beforeHanging (raws (drop 5 s))) (t .lines) (p .lines), p .head);
-    }
+-- behind a head of five bytes, where the fields of the rest are split
+module _ (s : List ℕ) (r : Body) (h : 5 ≤ length s) (f : BodyAt (take (length s - 5) (drop 5 s)) r) where
+  body : BodyAt (drop 5 s) r
+  body = rw (rest s 5) at f
+
+  -- The places are in order.
+  pub parts-in : PartsIn s (placed r)
+  parts-in =
+      record { order = omega (arith, body .order); inside = omega (arith, body .inside, length-drop 5 s); behind = λ _. omega arith }
+
+  -- The lines, the names and the V fields of a sheet, by their places.
+  pub finds-parts : getD s 3 0 < 256 → getD s 4 0 < 256 → FindsParts s (placed r)
+  finds-parts x y t e =
+      let p = sheet-read s t e in
+      let d : 5 + r .names - 5 ≡ r .names = omega arith in
+      let width : 5 + r .hanging - (5 + r .names) ≡ r .hanging - r .names = omega arith in
+      let fields : raws (part 5 (5 + r .names) s) ≡ beforeNames (beforeHanging (raws (drop 5 s))) = rw d (body .lines) in
+      let names : raws (part (5 + r .names) (5 + r .hanging) s) ≡ fromNames (beforeHanging (raws (drop 5 s))) =
+      rw width (ap (λ (b : List ℕ). raws (take (r .hanging - r .names) b)) (sym (drop-drop (r .names) 5 s)) ∙ body .names) in
+      let inside = parts-in .inside in
+      record {
+        lines = record { order = omega arith; inside = omega (arith, parts-in .order, inside); reads = ap (readAll readLine) fields ∙ p .behind .lines };
+        names = record { order = parts-in .order; inside = inside; reads = ap (readAll readName) names ∙ p .behind .names };
+        hung = record {
+          reads = ap (λ (b : List ℕ). readAll readHanging (raws b)) (sym (drop-drop (r .hanging) 5 s)) ∙ ap (readAll readHanging) (body .hung) ∙ p .behind .hung;
+        };
+        few = omega (arith, ap length fields, read-size readLine (beforeNames (beforeHanging (raws (drop 5 s)))) (t .lines) (p .behind .lines), p .head);
+      }
 
 -- ---- lists of cells, at most 16
 

@@ -11,16 +11,16 @@ use lib.Dec.{leb, eqb}
 use Rattle.characters.specs.If.{if_then_else_}
 use Rattle.fields.specs.Field.{all}
 use Rattle.fields.specs.First.{firstOf, refusalOf, unless}
-use Rattle.fields.specs.Answer.{refused as base-refused, give as base-give}
+use Rattle.fields.specs.Answer.{Verdict, refused}
 use Rattle.fields.specs.Sheet.{readPrefixes}
 use Rattle.fields.specs.Refusals.{prefixesRefusal}
 use Rattle.fields.specs.Text.{readableText}
 use Rattle.fields.proofs.First.{one-first, first-one}
-use Rattle.rows.specs.Answer.{widthRefusal, Verdict, refused, give, sheetRefusal, orMisfit, handedOn, noWidthHung, noWidth, subrenderVerdict, columnsVerdict, vertRowVerdict}
+use Rattle.rows.specs.Answer.{widthRefusal, orMisfit, handedOn, noWidthHung, noWidth, subrenderVerdict, columnsVerdict, vertRowVerdict}
 use Rattle.rows.specs.declared.RenderOptions.{RenderOptions}
 use Rattle.fields.specs.Spans.{Sheet, Cell, readSheet, readCells, readPlainCells, wideHanging, wide, readableSheet, readableCell}
-use Rattle.rows.specs.SubRenderer.{append-subrender, append-columns-with-borders, noBorderAbove, append-vert-row}
-use Rattle.fields.specs.SpanRefusals.{cellsRefusal, plainCellsRefusal}
+use Rattle.rows.specs.SubRenderer.{ofSheet, append-subrender, append-columns-with-borders, noBorderAbove, append-vert-row}
+use Rattle.fields.specs.SpanRefusals.{sheetRefusal, cellsRefusal, plainCellsRefusal}
 
 -- ---- numbers and tests
 
@@ -149,7 +149,7 @@ afterColumns s collapse old cs =
     if noBorderAbove s old cs collapse then refused 6 else orMisfit (append-columns-with-borders s old cs collapse)
 
 abbrev pub afterVertRow : RenderOptions → Sheet → List Cell → Verdict
-afterVertRow s old cs = orMisfit (handedOn (old .overhang) (append-vert-row s (old .lines) cs))
+afterVertRow s old cs = orMisfit (handedOn (old .overhang) (append-vert-row s (ofSheet old) cs))
 
 columns-same : (n : ℕ) (s : RenderOptions) (collapse : Bool) (o : Option Sheet) (c : Option (List Cell))
     → columnsVerdict s o c collapse ≡ cellsVerdict n s (afterColumns s collapse) o c
@@ -201,7 +201,7 @@ subrenderNumber s old guest ps = firstOf (firstOf (sheetRefusal old) (sheetRefus
 
 -- what follows refusals 1, 2 and 3
 abbrev pub afterSubrender : RenderOptions → Bool → Sheet → Sheet → List (List ℕ) → Verdict
-afterSubrender s rep old guest ps = orMisfit (handedOn (old .overhang) (append-subrender s (old .lines) (guest .lines) rep ps))
+afterSubrender s rep old guest ps = orMisfit (handedOn (old .overhang) (append-subrender s (ofSheet old) (guest .lines) rep ps))
 
 abbrev inputsNumber : RenderOptions → Option Sheet → Option Sheet → Option (List (List ℕ)) → ℕ
 inputsNumber s o g p = firstOf (firstOf (sheetNumber o) (sheetNumber g)) (firstOf (textsNumber p) (widthRefusal (s .width)))
@@ -262,10 +262,3 @@ first-none (suc a) (suc b) e = absurd (go (leb a b) e)
     go : (t : Bool) → (if t then suc a else suc b) ≡ 0 → ⊥
     go true e = omega arith
     go false e = omega arith
-
--- ---- what a refusal says
-
--- A call that refuses answers as the verdict says.
-pub refusal-same : (n : ℕ) (st : List ℕ) → base-give (base-refused n) st ≡ give (refused n) st
-unfolding base-give give
-refusal-same n st = refl

@@ -1,4 +1,4 @@
-// Lines of a sheet, of a cell or of a cell that hangs: L, B and G fields (refusals 1 and 3).
+// Lines of a sheet, of a cell or of a cell that hangs: L, B and G fields; and the names that wait on a sheet, F (refusals 1 and 3).
 use crate::holed::holed_refusal;
 use fields::field::Field;
 use fields::field::field_at;
@@ -10,7 +10,7 @@ ghost use mathlib.Core.Path.{_≡_};
 ghost use Prim.Native.Nat.{_<_};
 ghost use lib.ListN.{length};
 ghost use Rattle.fields.specs.Field.{whole, raws};
-ghost use Rattle.fields.specs.SpanRefusals.{lineRefusal, linesRefusal};
+ghost use Rattle.fields.specs.SpanRefusals.{lineRefusal, linesRefusal, namesRefusal};
 
 // An L field holds pieces; a B field is a border, and a G field one with holes.
 fn line_refusal(letter: u8, content: &[u8]) -> u8
@@ -55,4 +55,11 @@ pub fn lines_refusal(s: &[u8]) -> u8
             }
         }
     }
+}
+
+// The refusal that is given first of all names that wait.
+pub fn names_refusal(s: &[u8]) -> u8
+    ensures { λ r. ⌜ r ≡ namesRefusal (raws (now (s .entry))) ⌝ }
+{
+    fields_refusal(Kind::Names, s)
 }

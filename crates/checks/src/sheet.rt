@@ -1,5 +1,6 @@
-// A sheet: one H field, then as many L, B and G fields as it says, then V fields (refusals 1, 2 and 3).
+// A sheet: one H field, then as many L, B and G fields as it says, then F fields, then V fields (refusals 1, 2 and 3).
 use crate::line::lines_refusal;
+use crate::line::names_refusal;
 use crate::walk::Kind;
 use crate::walk::fields_refusal;
 use fields::field::Field;
@@ -8,18 +9,31 @@ use fields::field::first_of;
 use fields::field::wide;
 ghost use mathlib.Core.Path.{_≡_};
 ghost use Rattle.fields.specs.Field.{raws};
-ghost use Rattle.rows.specs.Answer.{sheetRefusal};
-ghost use Rattle.checks.specs.Split.{SplitAt, HangingIn, FindsHanging, countedRefusal};
+ghost use Rattle.fields.specs.SpanRefusals.{sheetRefusal};
+ghost use Rattle.checks.specs.Split.{SplitAt, BodyAt, PartsIn, FindsParts, countedRefusal};
 
-// Where the fields before the first V end, and how many they are.
+// Where the fields before the first one with a letter end, and how many they are.
 pub struct Split {
-    pub lines: usize,
+    pub end: usize,
     pub count: usize,
 }
 
-// The fields behind a sheet's head, split at the first V; a rest that is no field counts as one.
-fn split_fields(body: &[u8]) -> Split
-    ensures { λ r. ⌜ SplitAt (now (body .entry)) r ⌝ }
+// Of the fields behind a head: where the names begin, where the cells that hang begin, and the number of the lines.
+pub struct Body {
+    pub names: usize,
+    pub hanging: usize,
+    pub count: usize,
+}
+
+// Where the names that wait on a sheet begin, at the end of its lines, and where the cells that hang from it begin, at the end of the names.
+pub struct Parts {
+    pub names: usize,
+    pub hanging: usize,
+}
+
+// The fields split at the first one with a letter; a rest that is no field counts as one.
+fn split_fields(body: &[u8], split: u8) -> Split
+    ensures { λ r. ⌜ SplitAt split (now (body .entry)) r ⌝ }
 {
     let mut at: usize = 0;
     let mut count: usize = 0;
@@ -31,48 +45,73 @@ fn split_fields(body: &[u8]) -> Split
                 start: _,
                 next,
             } => {
-                if letter == 0x56 {
-                    return Split { lines: at, count };
+                if letter == split {
+                    return Split { end: at, count };
                 }
                 at = next;
                 count += 1;
             }
             Field::Broken => {
                 return Split {
-                    lines: body.len(),
+                    end: body.len(),
                     count: count + 1,
                 };
             }
             Field::End => {
-                return Split { lines: at, count };
+                return Split { end: at, count };
             }
         }
     }
 }
 
-// The place of the first V field of a sheet, or the end.
-pub fn first_hanging(s: &[u8]) -> usize
-    ensures { λ r. ⌜ HangingIn (now (s .entry)) r ⌝ }
-    ensures { λ r. ⌜ FindsHanging (now (s .entry)) r ⌝ }
+// The fields behind a head, split at the first V, and what stands before it at the first F.
+fn body_parts(body: &[u8]) -> Body
+    ensures { λ r. ⌜ BodyAt (now (body .entry)) r ⌝ }
+{
+    let all = split_fields(body, 0x56);
+    let hanging = all.end;
+    let lines = split_fields(&body[..hanging], 0x46);
+    Body {
+        names: lines.end,
+        hanging,
+        count: lines.count,
+    }
+}
+
+// The places of a sheet's names that wait and of its cells that hang; bytes without a head have both at their end.
+pub fn sheet_parts(s: &[u8]) -> Parts
+    ensures { λ r. ⌜ PartsIn (now (s .entry)) r ⌝ }
+    ensures { λ r. ⌜ FindsParts (now (s .entry)) r ⌝ }
 {
     if s.len() < 5 {
-        return s.len();
+        return Parts {
+            names: s.len(),
+            hanging: s.len(),
+        };
     }
-    let found = split_fields(&s[5..]);
-    5 + found.lines
+    let found = body_parts(&s[5..]);
+    Parts {
+        names: 5 + found.names,
+        hanging: 5 + found.hanging,
+    }
 }
 
 // The fields behind a head that says so many lines: 1 for another number of lines, and else the refusal that is given first.
 fn counted_refusal(count: usize, body: &[u8]) -> u8
     ensures { λ r. ⌜ r ≡ countedRefusal count (raws (now (body .entry))) ⌝ }
 {
-    let found = split_fields(body);
+    let found = body_parts(body);
     if found.count != count {
         return 1;
     }
-    let end = found.lines;
-    let n = lines_refusal(&body[..end]);
-    first_of(n, fields_refusal(Kind::Hanging, &body[end..]))
+    let names = found.names;
+    let hanging = found.hanging;
+    let n = lines_refusal(&body[..names]);
+    let k = names_refusal(&body[names..hanging]);
+    first_of(
+        n,
+        first_of(k, fields_refusal(Kind::Hanging, &body[hanging..])),
+    )
 }
 
 // The refusal of a whole sheet, in the order 1, 2, 3; 0 where it passes.
