@@ -2,7 +2,7 @@
 -- reaches past its end and the assertion of `TaggedLine::width` holds, up to the last step or to TooNarrow. So a difference that stops
 -- at 0 and an `unwrap` that has a default hide no panic of the Rust.
 -- Assumes nothing.
-use mathlib.Core.Path.{_≡_, refl, sym, ap}
+use mathlib.Core.Path.{_≡_, refl, sym, ap, _∙_}
 use mathlib.Core.Bool.{Bool, true, false, not, _&&_}
 use mathlib.Core.Option.{Option, none, some}
 use mathlib.Core.List.{List, [], _∷_, _++_}
@@ -10,7 +10,7 @@ use Prim.Native.Nat.{ℕ, zero, suc, _+_, _-_, _≤_, _<_, min}
 use native.Mathlib.Omega.{arith}
 use lib.Dec.{ltb, eqb}
 use lib.ListN.{length, take, drop, length-drop}
-use borrow.Author.Tests.{eqb-true, ltb-true, ltb-false}
+use borrow.Author.Tests.{not-true, eqb-true, ltb-true, ltb-false}
 use Rattle.characters.specs.If.{if_then_else_}
 use Rattle.characters.specs.Columns.{columnsOf, widthOf, cols, str-width}
 use Rattle.characters.specs.Whitespace.{isWordbreakPoint}
@@ -22,15 +22,15 @@ use Rattle.fields.specs.declared.job.Setup.{Setup}
 use Rattle.fields.proofs.Back.{Every}
 use Rattle.block.specs.Tag.{Tag, tag, sameTag, isPre}
 use Rattle.block.specs.Result.{good, OnGood}
-use Rattle.block.specs.TaggedLine.{TaggedString, Element, Str, FragmentStart, tagged, is-empty, push, push-ws, push-char, sum-widths, line-width, backwards}
-use Rattle.block.specs.WrappedBlock.{WrappedBlock, set-line, force-flush-line, flush-line, unwrap, Walked, walk as walk-piece, Hard, split-at, split-piece, put-rest, at-start, first-mode, write-one, flush-word, Text, text as at-text, add-char, new as new-block}
+use Rattle.block.specs.TaggedLine.{TaggedString, Element, Str, FragmentStart, tagged, is-empty, push, push-ws, push-char, sum-widths, line-width, line-new, backwards}
+use Rattle.block.specs.WrappedBlock.{WrappedBlock, set-line, set-word, force-flush-line, flush-line, unwrap, Walked, walk as walk-piece, Hard, split-at, split-piece, put-rest, at-start, first-mode, write-one, flush-word, trailing-taken, Text, text as at-text, add-char, new as new-block}
 use Rattle.block.specs.Answer.{charsOr, add-field, add-fields}
-use Rattle.block.specs.Flat.{Item, char, name, Line, columns, pushChar, spaces, Block, new, withWrapped, left, flushLine, dropBlanks, startsPre, carryOn, flushWord, Walk, walk, step, addField, addFields}
-use Rattle.block.specs.Panics.{IsSome, width-safe, without-front-safe, without-end-safe, flush-line-safe, walk-safe, split-at-safe, split-piece-safe, put-rest-safe, hard-wrap-elements-safe, flush-word-hard-wrap-safe, at-wrap-safe, match-spacetag-safe, write-one-safe, write-remaining-safe, not-enough-space-safe, flush-word-safe, newline-safe, tab-loop-safe, tab-safe, blank-safe, add-char-safe, add-chars-safe, add-text-safe, into-lines-safe, add-field-safe, add-fields-safe, lines-safe}
+use Rattle.block.specs.Flat.{Item, char, name, Line, columns, hasText, pushChar, spaces, Block, new, withWord, withWrapped, left, flushLine, dropBlanks, startsPre, carryOn, flushWord, Walk, walk, step, addField, addFields}
+use Rattle.block.specs.Panics.{IsSome, width-safe, without-front-safe, without-end-safe, flush-line-safe, walk-safe, split-at-safe, split-piece-safe, put-rest-safe, hard-wrap-elements-safe, flush-word-hard-wrap-safe, at-wrap-safe, match-spacetag-safe, write-one-safe, write-remaining-safe, not-enough-space-safe, flush-word-safe, newline-safe, tab-loop-safe, tab-safe, blank-safe, add-char-safe, add-chars-safe, add-text-safe, into-lines-safe, flush-wrapping-safe, add-field-safe, add-fields-safe, flushed-block-safe}
 use Rattle.block.proofs.Results.{good-bind, good-map, good-both}
-use Rattle.block.proofs.Width.{columns-append, BlockWithin, fits-carried, fits-word, fits-step, fits-field}
+use Rattle.block.proofs.Width.{columns-append, no-text, BlockWithin, fits-carried, fits-word, fits-step, fits-field}
 use Rattle.block.proofs.Clean.{Counted as Brought, Brings, Clean, clean-carried, clean-word, clean-step, clean-field}
-use Rattle.block.proofs.Group.{glue, group, tline, tagged-chars, columns-tagged-chars, push-text, push-item, push-spaces, group-width, tline-width, group-mode, trim-length, trim-width, end-width, sum-backwards}
+use Rattle.block.proofs.Group.{glue, group, tline, tagged-chars, columns-tagged-chars, push-text, push-item, push-spaces, group-width, group-content, tline-width, group-mode, trim-length, trim-width, end-width, sum-backwards}
 use Rattle.block.proofs.Same.{Match, match-bind, match-and, match-good, by-both, block-of, Pending, Carried, before-wrap, if-wrapped, Like, word-same, LikeW, step-same}
 use Rattle.block.proofs.Fuel.{Stops, walk-stops, Counted, none-wide, rest-length, rest-counted, rest-empty, shrinks}
 use Rattle.block.proofs.Equal.{field-same, passes-wide, refusal-at}
@@ -423,16 +423,32 @@ module _ (s : Setup) where
     end-of b r h =
         (word-of b r h, match-good Sound flush-line-safe (flushWord s b) _ (word-on b r h) (λ d q k _ _. lined-safe q (sound-lined d q k)))
 
-    lines-of : (fs : List JobField) → lines-safe s fs
-    unfolding lines-safe new new-block columns group
-    lines-of fs =
+    -- a word without text that is taken leaves a block as sound as before
+    taken-of : (x : Bool) (b : Block) (r : WrappedBlock) → is-empty (r .word) ≡ x → Sound b r → into-lines-safe (if x then set-word line-new r else r)
+    unfolding is-empty columns group
+    taken-of true b r e ((n, k, h, g), (fits, clean)) =
+        let empty = sym (group-content (b .word)) ∙ sym (ap (λ (q : WrappedBlock). is-empty (q .word)) k) ∙ e in
+        let none-left : columns (b .word) ≡ 0 = no-text (b .word) (not-true (hasText (b .word)) empty) in
+        end-of (withWord [] b) (set-word line-new r) (
+          (0, ap (set-word line-new) k ∙ ap (λ (m : ℕ). block-of s 0 m (withWord [] b)) none-left, h, omega arith),
+          (fits, (clean .0, clean .1, tt)),
+        )
+    taken-of false b r e h = end-of b r h
+
+    wrapping-of : (b : Block) (r : WrappedBlock) → Sound b r → flush-wrapping-safe r
+    unfolding flush-wrapping-safe trailing-taken
+    wrapping-of b r h = taken-of (is-empty (r .word)) b r refl h
+
+    block-safe : (fs : List JobField) → flushed-block-safe s fs
+    unfolding flushed-block-safe new new-block columns group
+    block-safe fs =
         let r = new-block (s .width) (s .pad) (s .overflow) (s .annotation) in
         let start : Sound new r = ((0, refl, refl, omega arith), ((tt, omega arith), (tt, tt, tt))) in
-        (fields-of fs new r start, match-good Sound into-lines-safe (addFields s fs new) _ (fields-on fs new r start) end-of)
+        (fields-of fs new r start, match-good Sound flush-wrapping-safe (addFields s fs new) _ (fields-on fs new r start) wrapping-of)
 
 -- ---- THE STATEMENT
 
 -- NO PANIC: a job that passes 1 to 4 runs, to its end or to TooNarrow, without a difference below 0, an `unwrap` of None, a part of a
 -- string past its end or a failed assertion.
-pub no-panic : (job : List ℕ) (s : Setup) → setupOf job ≡ some s → jobRefusal job ≡ 0 → lines-safe s (fieldsOf job)
-no-panic job s e p = lines-of s (passes-wide (fieldsOf job) s (refusal-at job s e p)) (fieldsOf job)
+pub no-panic : (job : List ℕ) (s : Setup) → setupOf job ≡ some s → jobRefusal job ≡ 0 → flushed-block-safe s (fieldsOf job)
+no-panic job s e p = block-safe s (passes-wide (fieldsOf job) s (refusal-at job s e p)) (fieldsOf job)

@@ -23,7 +23,7 @@ use Rattle.fields.specs.declared.job.Setup.{Setup}
 use Rattle.block.specs.Tag.{Tag, tag, isPre, keepsSpace}
 use Rattle.block.specs.Result.{good, OnGood}
 use Rattle.block.specs.TaggedLine.{TaggedString, Element, Str, FragmentStart, tagged, TaggedLine, line-new, is-empty, push, push-ws, push-char, line-width, trim-start, trim-end, backwards}
-use Rattle.block.specs.WrappedBlock.{WrappedBlock, set-line, set-spacetag, set-word, set-pre-wrapped, unwrap, flush-line, Walked, walk, Hard, split-at, split-piece, put-rest, at-start, first-mode, match-spacetag, write-one, write-remaining, flush-word, Text, text as at-text, add-char, new}
+use Rattle.block.specs.WrappedBlock.{WrappedBlock, set-line, set-spacetag, set-word, set-pre-wrapped, unwrap, flush-line, Walked, walk, Hard, split-at, split-piece, put-rest, at-start, first-mode, match-spacetag, write-one, write-remaining, flush-word, trailing-taken, Text, text as at-text, add-char, new}
 use Rattle.block.specs.Answer.{charsOr, add-field, add-fields}
 
 -- there is something to `unwrap`
@@ -228,11 +228,15 @@ unfoldable pub add-text-safe : List ℕ → Mode → ℕ → ℕ → WrappedBloc
 add-text-safe cs ws-mode main-tag wrap-tag self =
     add-chars-safe ws-mode main-tag wrap-tag cs (at-text self (if self .pre-wrapped then wrap-tag else main-tag))
 
--- ---- `into_lines`, and the call
+-- ---- `into_lines`, `flush_wrapping`, and the call
 
 -- `flush`, `into_lines`
 unfoldable pub into-lines-safe : WrappedBlock → Type 0
 into-lines-safe self = flush-word-safe self × OnGood flush-line-safe (flush-word self)
+
+-- `flush_wrapping`: `into_lines` of the block that `take_trailing_fragments` leaves, which does nothing that can panic
+unfoldable pub flush-wrapping-safe : WrappedBlock → Type 0
+flush-wrapping-safe self = into-lines-safe (trailing-taken self)
 
 -- a field of the job
 unfoldable pub add-field-safe : JobField → WrappedBlock → Type 0
@@ -246,7 +250,7 @@ add-fields-safe [] b = Unit {0}
 add-fields-safe (f ∷ fs) b = add-field-safe f b × OnGood (λ c. add-fields-safe fs c) (add-field f b)
 
 -- the whole run
-unfoldable pub lines-safe : Setup → List JobField → Type 0
-lines-safe s fs =
+unfoldable pub flushed-block-safe : Setup → List JobField → Type 0
+flushed-block-safe s fs =
     let b = new (s .width) (s .pad) (s .overflow) (s .annotation) in
-    add-fields-safe fs b × OnGood into-lines-safe (add-fields fs b)
+    add-fields-safe fs b × OnGood flush-wrapping-safe (add-fields fs b)
