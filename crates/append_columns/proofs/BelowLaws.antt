@@ -38,7 +38,8 @@ use Rattle.extend_lines.proofs.Emitting.{one-more, wrote-length, field-bytes}
 use Rattle.row_borders.specs.Border.{BordersBelow}
 use Rattle.row_fit.specs.Row.{anyHole}
 use Rattle.row_lines.specs.Row.{isLong}
-use Rattle.row_lines.proofs.Growing.{or-first, or-second, sizeOf, long-unfit, long-size, short-line}
+use Rattle.extend_lines.proofs.Growing.{or-first, or-second, sizeOf, long-unfit}
+use Rattle.row_lines.proofs.Growing.{long-size, short-line}
 use Rattle.row_lines.proofs.RowLaws.{or-true}
 use Rattle.row_holes.specs.Pieces.{placed, HolesPut}
 use Rattle.row_holes.specs.Row.{WideSeat, ShortSeat, CutsHoles, HolesIs, HolesIn, PutsHoles}

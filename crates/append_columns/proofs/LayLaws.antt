@@ -32,7 +32,7 @@ use Rattle.row_fit.specs.Row.{anyHole, RowFit}
 use Rattle.row_fit.specs.declared.row.Fit.{Fit}
 use Rattle.row_holes.specs.Row.{WideSeat}
 use Rattle.row_lines.specs.Full.{AddsRow}
-use Rattle.row_lines.proofs.Growing.{or-first, or-second}
+use Rattle.extend_lines.proofs.Growing.{or-first, or-second}
 use Rattle.overhang.specs.Hang.{HangsAll}
 use Rattle.overhang.proofs.SpentLaws.{every-row}
 use Rattle.extend_lines.specs.Emitted.{Emitted, InBounds, Closes}

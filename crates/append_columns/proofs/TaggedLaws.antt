@@ -26,7 +26,7 @@ use Rattle.borders.specs.BorderHoriz.{to-string, upToHole, atHole, into-tagged-
 use Rattle.fields.specs.TaggedLine.{push}
 use Rattle.fields.specs.Spans.{Hole}
 use Rattle.rows.specs.Columns.{anyPast}
-use Rattle.row_lines.proofs.Growing.{or-first, or-second, sizeOf, grow-push}
+use Rattle.extend_lines.proofs.Growing.{or-first, or-second, sizeOf, grow-push}
 use Rattle.row_holes.proofs.Pushing.{push-adds}
 
 -- ---- the columns of a text

@@ -47,7 +47,7 @@ unfolding readLine
 copies-text out mid out′ p r letter bytes next is few count long most copies same w l read st ls e =
     go (readAll readPiece (raws bytes)) refl (rw is at read)
   where
-    go : (q : Option (List Piece)) → readAll readPiece (raws bytes) ≡ q → Option·map text q ≡ some l → Emitted st (ls ++ (l ∷ [])) [] out′ r
+    go : (q : Option (List Piece)) → readAll readPiece (raws bytes) ≡ q → Option·map text q ≡ some l → Emitted st (ls ++ (l ∷ [])) [] [] out′ r
     go none f g = absurd (let z : _≡_ {A = ℕ} 0 1 = cc in omega arith)
     go (some ps) f g =
         let is : text ps ≡ l = Option·some-injective (text ps) l g in
@@ -96,7 +96,7 @@ copies-on out mid out′ p q r body rest letter bytes is one others new read st 
     go (readLine (whole letter bytes)) (readAll readLine (raws rest)) refl refl (rw is at read)
   where
     go : (x : Option RenderLine) (xs : Option (List RenderLine)) → readLine (whole letter bytes) ≡ x → readAll readLine (raws rest) ≡ xs
-        → both x xs ≡ some new → Emitted st (ls ++ new) [] out′ r
+        → both x xs ≡ some new → Emitted st (ls ++ new) [] [] out′ r
     go none xs f g h = absurd (let z : _≡_ {A = ℕ} 0 1 = cc in omega arith)
     go (some l) none f g h = absurd (let z : _≡_ {A = ℕ} 0 1 = cc in omega arith)
     go (some l) (some left) f g h =

@@ -1,5 +1,5 @@
--- The laws of the lines that stand in a store: none at the start, a line of text or a border more, the cells that hang behind them, and the
--- end of a call.
+-- The laws of the lines that stand in a store: none at the start, a line of text or a border more, the names that wait and the cells that
+-- hang behind them, and the end of a call.
 -- Assumes nothing.
 use mathlib.Core.Path.{_≡_, refl, sym, ap, ap₂, _∙_}
 use mathlib.Core.Logic.{_⊎_, ⊎-elim}
@@ -10,36 +10,35 @@ use native.Mathlib.Nat.{mod-eq-of-lt}
 use native.Mathlib.Omega.{arith}
 use borrow.Author.Tests.{leb-true, leb-false, le-leb, lt-leb, lt-ltb, le-ltb, not-false}
 use lib.Dec.{leb, ltb}
-use lib.ListN.{length, drop, replicate, length-append}
+use lib.ListN.{length, take, drop, length-append, take-append-drop}
 use lib.Seq.{sets, length-sets}
 use Rattle.characters.proofs.Tests.{and-left, and-right, and-assoc}
 use Rattle.fields.specs.Field.{head, two, field, raws, readAll, all}
 use Rattle.fields.specs.Sheet.{Piece, piecesBytes}
 use Rattle.fields.specs.Store.{Wrote}
-use Rattle.fields.specs.Answer.{Answer, rendered, refused as base-refused, inStore, give as base-give}
-use Rattle.fields.specs.declared.answer.Rendered.{Rendered}
-use Rattle.fields.specs.declared.answer.Rendered.the-variants.{Sheet, Refused, StoreShort}
+use Rattle.fields.specs.Answer.{Answer, refused, inStore, give, Stands}
 use Rattle.fields.specs.Widths.{width}
 use Rattle.fields.proofs.Sets.{sets-append, sets-before, sets-fits, wrote-then, wrote-before}
 use Rattle.borders.specs.BorderHoriz.{stretch-to, to-string, drawn, into-tagged-from, border-into-tagged-line}
 use Rattle.borders.proofs.Drawing.{drawn-string}
 use Rattle.rows.specs.declared.RenderOptions.{RenderOptions}
 use Rattle.fields.specs.TaggedLine.{join, push-str, pad-to}
-use Rattle.rows.proofs.Reading.{Bytes}
-use Rattle.fields.specs.Spans.{RenderLine, text, Hanging, sheetOf, readHanging, content, letter, linesBytes, overhangBytes, sheetBytes}
+use Rattle.rows.proofs.Reading.{Bytes, bytes-take, bytes-drop}
+use Rattle.fields.specs.Spans.{RenderLine, text, Hanging, sheetOf, content, letter, linesBytes, namesBytes, overhangBytes, bodyBytes, sheetBytes}
 use Rattle.rows.specs.SubRenderer.{padded, plainBorder}
-use Rattle.rows.specs.Answer.{refused, give, fits, fitsHanging, finished}
+use Rattle.rows.specs.Answer.{fits, fitsHanging, finished}
 use Rattle.tagged_line.specs.Held.{Held, Within, LineGrown, newLine, Pads, Draws}
 use Rattle.tagged_line.specs.declared.line.Line.{Line}
-use Rattle.extend_lines.specs.Emitted.{allFit, bodyBytes, Emitted, InBounds, LineBegun, noLines, FinishesLine, AddsTextLine, PutsBorder, AddsBorder, HandsOn, Stands, Finishes}
+use Rattle.extend_lines.specs.Emitted.{allFit, Emitted, InBounds, LineBegun, noLines, FinishesLine, AddsTextLine, PutsBorder, AddsBorder, HandsOn}
 use Rattle.extend_lines.specs.declared.line.Lines.{Lines}
 use Rattle.extend_lines.proofs.Handing.{overhang-same, overhang-fits}
+use Rattle.extend_lines.proofs.Naming.{names-back}
 
 -- ---- the start
 
 -- No lines stand in any store.
-pub emitted-none : (st : List ℕ) → Emitted st [] [] st noLines
-unfolding all linesBytes overhangBytes
+pub emitted-none : (st : List ℕ) → Emitted st [] [] [] st noLines
+unfolding all linesBytes namesBytes overhangBytes
 emitted-none st = record { size = refl; count = refl; long = refl; place = λ _. refl; bytes = λ _. refl }
 
 -- ---- a line more, over lists
@@ -76,11 +75,11 @@ fit-alone : (ls : List RenderLine) → allFit ls [] ≡ all fits ls
 unfolding all
 fit-alone ls = and-true (all fits ls)
 
-bytes-alone : (ls : List RenderLine) → bodyBytes ls [] ≡ linesBytes ls
-unfolding overhangBytes
+bytes-alone : (ls : List RenderLine) → bodyBytes ls [] [] ≡ linesBytes ls
+unfolding namesBytes overhangBytes
 bytes-alone ls = append-nil (linesBytes ls)
 
-alone : (st : List ℕ) (ls : List RenderLine) (out : List ℕ) (p : Lines) → Emitted st ls [] out p → Alone st ls out p
+alone : (st : List ℕ) (ls : List RenderLine) (out : List ℕ) (p : Lines) → Emitted st ls [] [] out p → Alone st ls out p
 alone st ls out p e = record {
   size = e .size;
   count = e .count;
@@ -89,7 +88,7 @@ alone st ls out p e = record {
   bytes = λ ok. e .bytes (fit-alone ls ∙ ok) ∙ ap (sets st 5) (bytes-alone ls);
 }
 
-from-alone : (st : List ℕ) (ls : List RenderLine) (out : List ℕ) (p : Lines) → Alone st ls out p → Emitted st ls [] out p
+from-alone : (st : List ℕ) (ls : List RenderLine) (out : List ℕ) (p : Lines) → Alone st ls out p → Emitted st ls [] [] out p
 from-alone st ls out p e = record {
   size = e .size;
   count = e .count;
@@ -99,10 +98,10 @@ from-alone st ls out p e = record {
 }
 
 -- A line more is there once its field stands after the others, or it is too long.
-pub one-more : (st mid out : List ℕ) (ls : List RenderLine) (x : RenderLine) (p r : Lines) → Emitted st ls [] mid p → length out ≡ length mid
+pub one-more : (st mid out : List ℕ) (ls : List RenderLine) (x : RenderLine) (p r : Lines) → Emitted st ls [] [] mid p → length out ≡ length mid
     → r .count ≡ p .count + 1 → r .long ≡ (p .long || not (fits x))
     → (fits x ≡ true → Wrote mid (p .at) (field (letter x) (content x)) out (r .at))
-    → Emitted st (ls ++ (x ∷ [])) [] out r
+    → Emitted st (ls ++ (x ∷ [])) [] [] out r
 one-more st mid out ls x p r emitted size count long write =
     let e = alone st ls mid p emitted in
     let f = field (letter x) (content x) in
@@ -239,7 +238,7 @@ unfolding padded
 adds-drawn out o₁ out′ p r s a segs new line pad is same draws adds st ls e =
     let held : Held out (push-str [] a (to-string segs)) o₁ line =
     rw (drawing segs) at (draws out [] (rw is (held-new out (p .at)))) in
-    let x : Emitted st (ls ++ (padded s (text (push-str [] a (to-string segs))) ∷ [])) [] out′ r = adds st out ls (push-str [] a (to-string segs)) e same held in
+    let x : Emitted st (ls ++ (padded s (text (push-str [] a (to-string segs))) ∷ [])) [] [] out′ r = adds st out ls (push-str [] a (to-string segs)) e same held in
     rw (pad, drawn-pieces a segs) (rw pad at x)
 
 -- Without pad it is put as it stands.
@@ -248,106 +247,64 @@ pub adds-border : (out out′ : List ℕ) (p r : Lines) (s : RenderOptions) (a :
 unfolding padded
 adds-border out out′ p r s a segs pad puts st ls e = rw pad (puts st ls e)
 
--- ---- what hangs
+-- ---- what stands behind the lines
 
--- V fields that were read stand behind the lines once their bytes do.
+-- F and V fields that were read stand behind the lines once their bytes do.
 pub hands-on : (out out′ : List ℕ) (p r : Lines) (fields : List ℕ) → Bytes fields → r .count ≡ p .count → r .long ≡ p .long
     → Wrote out (p .at) fields out′ (r .at) → HandsOn out p fields out′ r
-hands-on out out′ p r fields k count long w vs read st ls emitted =
+hands-on out out′ p r fields k count long w ns vs t st ls emitted =
     let e = alone st ls out p emitted in
-    let same = overhang-same fields vs k read in
-    let fit : allFit ls vs ≡ all fits ls = ap (λ (t : Bool). all fits ls && t) (overhang-fits fields vs k read) ∙ and-true (all fits ls) in
+    let n = t .seam in
+    let kv = bytes-drop n fields k in
+    let same : namesBytes ns ++ overhangBytes vs ≡ fields =
+    ap₂ (λ (x y : List ℕ). x ++ y) (names-back (take n fields) ns (bytes-take n fields k) (t .names)) (overhang-same (drop n fields) vs kv (t .hung))
+    ∙ take-append-drop n fields in
+    let fit : allFit ls vs ≡ all fits ls = ap (λ (t : Bool). all fits ls && t) (overhang-fits (drop n fields) vs kv (t .hung)) ∙ and-true (all fits ls) in
     record {
       size = wrote-length w ∙ e .size;
       count = count ∙ e .count;
       long = long ∙ e .long ∙ ap not (sym fit);
       place = λ ok.
           let at = e .place (sym fit ∙ ok) in
-          let n : length (bodyBytes ls vs) ≡ length (linesBytes ls) + length fields = length-append (linesBytes ls) (overhangBytes vs) ∙ ap (λ (bs : List ℕ). length (linesBytes ls) + length bs) same in
+          let n : length (bodyBytes ls ns vs) ≡ length (linesBytes ls) + length fields =
+          length-append (linesBytes ls) (namesBytes ns ++ overhangBytes vs) ∙ ap (λ (bs : List ℕ). length (linesBytes ls) + length bs) same in
           omega (arith, n, at, w .place);
       bytes = λ ok.
           let h = sym fit ∙ ok in
           w .store ∙ rw (e .place h, e .bytes h, same) (sym (sets-append st 5 (linesBytes ls) fields));
     }
 
--- ---- the head
-
--- a sheet's head, of five bytes
-abbrev headBytes : ℕ → List ℕ
-headBytes n = head 0x48 2 ++ two n
-
--- A sheet is its head, then its lines, then what hangs from it.
-sheet-is : (ls : List RenderLine) (vs : List Hanging) → sheetBytes (sheetOf ls vs) ≡ headBytes (length ls) ++ bodyBytes ls vs
-unfolding sheetBytes field
-sheet-is ls vs = refl
-
-sheet-length : (ls : List RenderLine) (vs : List Hanging) → length (sheetBytes (sheetOf ls vs)) ≡ 5 + length (bodyBytes ls vs)
-sheet-length ls vs = ap length (sheet-is ls vs) ∙ length-append (headBytes (length ls)) (bodyBytes ls vs)
-
--- The sheet fits: the head goes in front.
-pub finishes-sheet : (place count : ℕ) (store mid store′ : List ℕ) (n m : ℕ) → place ≤ length store → Wrote store 0 (head 0x48 2) mid n
-    → Wrote mid n (two (count % 65536)) store′ m → Finishes place count store (Sheet place) store′
-unfolding inStore
-finishes-sheet place count store mid store′ n m within v w st ls vs s few =
-    let bytes = bodyBytes ls vs in
-    let whole = sheetBytes (sheetOf ls vs) in
-    let lines : count % 65536 ≡ length ls = ap (λ (k : ℕ). k % 65536) (s .lines) ∙ mod-eq-of-lt few in
-    let long : place ≡ length whole = s .place ∙ sym (sheet-length ls vs) in
-    let same : length store ≡ length st = ap length (s .store) ∙ length-sets st 5 bytes in
-    let room : length whole ≤ length st = omega arith in
-    let e : store′ ≡ whole ++ drop (length whole) st =
-    wrote-then v w .store ∙ rw (s .store, lines) (sets-before st 0 (headBytes (length ls)) bytes) ∙ ap (sets st 0) (sym (sheet-is ls vs)) ∙ sets-fits st whole room in
-    rw (le-leb (length whole) (length st) room)
-    (ap₂ (λ (k : ℕ) (l : List ℕ). record { number = 0; length = k; store = l }) long e)
-
--- It does not: refusal 8, with the length needed.
-pub finishes-short : (place count : ℕ) (store store′ : List ℕ) (r : Rendered) → length store < place → rendered r store′ ≡ base-give (base-refused 8) store
-    → Finishes place count store (StoreShort place) store′
-unfolding inStore base-give
-finishes-short place count store store′ r short is st ls vs s few =
-    let bytes = bodyBytes ls vs in
-    let whole = sheetBytes (sheetOf ls vs) in
-    let zeros : store′ ≡ replicate (length store) 0 = zeroed r is in
-    let long : place ≡ length whole = s .place ∙ sym (sheet-length ls vs) in
-    let same : length store ≡ length st = ap length (s .store) ∙ length-sets st 5 bytes in
-    let past : length st < length whole = omega arith in
-    rw (lt-leb (length whole) (length st) past)
-    (ap₂ (λ (k : ℕ) (l : List ℕ). record { number = 8; length = k; store = l }) long (zeros ∙ ap (λ (k : ℕ). replicate k 0) same))
-  where
-    zeroed : (r : Rendered) → rendered r store′ ≡ record { number = 8; length = 0; store = replicate (length store) 0 } → store′ ≡ replicate (length store) 0
-    zeroed (Sheet n) e = ap (λ (a : Answer). a .store) e
-    zeroed (Refused n) e = ap (λ (a : Answer). a .store) e
-    zeroed (StoreShort n) e = ap (λ (a : Answer). a .store) e
-
 -- ---- the end of a call
 
--- the two ways to say a refusal: it zeroes by the store's length alone
-refused-same : (n : ℕ) (s t : List ℕ) → length s ≡ length t → base-give (base-refused n) s ≡ give (refused n) t
-unfolding give base-give
+-- a refusal zeroes by the store's length alone
+refused-same : (n : ℕ) (s t : List ℕ) → length s ≡ length t → give (refused n) s ≡ give (refused n) t
+unfolding give
 refused-same n s t e = rw e
 
 -- what a call answers is the end of these lines
 abbrev Answers : Lines → List ℕ → Answer → Type 0
-Answers p store a = (st : List ℕ) (ls : List RenderLine) (vs : List Hanging) → Emitted st ls vs store p → a ≡ give (finished (sheetOf ls vs)) st
+Answers p store a =
+    (st : List ℕ) (ls : List RenderLine) (ns : List (List ℕ)) (vs : List Hanging) → Emitted st ls ns vs store p → a ≡ give (finished (sheetOf ls ns vs)) st
 
 -- refusal 7
-pub closes-long : (p : Lines) (store : List ℕ) (a : Answer) → p .long ≡ true → a ≡ base-give (base-refused 7) store → Answers p store a
+pub closes-long : (p : Lines) (store : List ℕ) (a : Answer) → p .long ≡ true → a ≡ give (refused 7) store → Answers p store a
 unfolding finished
-closes-long p store a long is st ls vs e = is ∙ refused-same 7 store st (e .size) ∙ rw (sym (e .long) ∙ long)
+closes-long p store a long is st ls ns vs e = is ∙ refused-same 7 store st (e .size) ∙ rw (sym (e .long) ∙ long)
 
 -- refusal 9
-pub closes-many : (p : Lines) (store : List ℕ) (a : Answer) → p .long ≡ false → 65535 < p .count → a ≡ base-give (base-refused 9) store → Answers p store a
+pub closes-many : (p : Lines) (store : List ℕ) (a : Answer) → p .long ≡ false → 65535 < p .count → a ≡ give (refused 9) store → Answers p store a
 unfolding finished
-closes-many p store a short many is st ls vs e =
+closes-many p store a short many is st ls ns vs e =
     is ∙ refused-same 9 store st (e .size) ∙ rw (sym (e .long) ∙ short, lt-ltb 65535 (length ls) (rw (e .count) at many))
 
 -- The head in front of the lines, or refusal 8.
 pub closes-lines : (p : Lines) (store : List ℕ) (a : Answer) → p .long ≡ false → p .count ≤ 65535
-    → ((st : List ℕ) (ls : List RenderLine) (vs : List Hanging) → Stands ls vs st (p .at) (p .count) store → length ls < 65536 → a ≡ inStore (sheetBytes (sheetOf ls vs)) st)
+    → ((st : List ℕ) (ls : List RenderLine) (ns : List (List ℕ)) (vs : List Hanging) → Stands ls ns vs st (p .at) (p .count) store → length ls < 65536
+    → a ≡ inStore (sheetBytes (sheetOf ls ns vs)) st)
     → Answers p store a
 unfolding finished give
-closes-lines p store a short few finishes st ls vs e =
+closes-lines p store a short few finishes st ls ns vs e =
     let ok : allFit ls vs ≡ true = not-false (allFit ls vs) (sym (e .long) ∙ short) in
     let h : length ls ≤ 65535 = rw (e .count) at few in
-    finishes st ls vs (record { store = e .bytes ok; place = e .place ok; lines = e .count }) (omega (arith, h))
+    finishes st ls ns vs (record { store = e .bytes ok; place = e .place ok; lines = e .count }) (omega (arith, h))
     ∙ rw (sym (e .long) ∙ short, le-ltb 65535 (length ls) h)

@@ -1,4 +1,4 @@
-// The old sheet's lines, and the cells that hang from it, copied as they stand.
+// The old sheet's lines, the names that wait on it and the cells that hang from it, copied as they stand.
 use crate::line::Lines;
 use fields::field::Field;
 use fields::field::field_at;
@@ -68,7 +68,7 @@ pub fn copy_lines(out: &mut [u8], lines: Lines, body: &[u8]) -> Lines
     }
 }
 
-// The cells that hang from the sheet, handed on: its V fields behind the lines. The head does not count them.
+// Names that wait and cells that hang from the sheet, handed on: its F and V fields behind the lines. The head does not count them.
 pub fn hand_on(out: &mut [u8], lines: Lines, fields: &[u8]) -> Lines
     requires { ⌜ InBounds lines ⌝ }
     ensures { λ r. ⌜ r .count ≡ lines .count ⌝ }

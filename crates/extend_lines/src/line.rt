@@ -1,21 +1,22 @@
 // The lines so far, and one line more.
 use borders::draw::drawn_len;
 use fields::answer::Rendered;
+use fields::answer::finish;
 use fields::answer::refuse;
 use fields::field::wide;
 use fields::store::put_byte;
 use fields::store::put_bytes;
 use fields::store::put_head;
-use fields::store::put_two;
 use rows::RenderOptions;
 use tagged_line::line::Line;
 use tagged_line::line::new_line;
 use tagged_line::line::pad_to;
 use tagged_line::line::push_drawn;
 ghost use mathlib.Core.Path.{_≡_};
-ghost use Prim.Native.Nat.{_+_, _^_, _≤_, _<_};
+ghost use mathlib.Core.Bool.{true};
+ghost use Prim.Native.Nat.{_^_, _<_};
 ghost use lib.ListN.{length};
-ghost use Rattle.extend_lines.specs.Emitted.{noLines, InBounds, OneLineMore, LineBegun, FinishesLine, AddsTextLine, PutsBorder, AddsBorder, Finishes, Closes};
+ghost use Rattle.extend_lines.specs.Emitted.{noLines, InBounds, OneLineMore, LineBegun, FinishesLine, AddsTextLine, BeginsLine, PutsBorder, AddsBorder, Closes};
 
 // The place after the lines so far, their number, and whether one of them has more than 65,535 bytes (refusal 7).
 pub struct Lines {
@@ -32,6 +33,35 @@ pub fn no_lines() -> Lines
         at: 5,
         count: 0,
         long: false,
+    }
+}
+
+// A line that is too long for its field is counted.
+pub fn too_long(lines: Lines) -> Lines
+    requires { ⌜ InBounds lines ⌝ }
+    ensures { λ r. ⌜ OneLineMore lines r × (r .long ≡ true) ⌝ }
+{
+    Lines {
+        at: lines.at,
+        count: lines.count + 1,
+        long: true,
+    }
+}
+
+// `TaggedLine::new`, and the names that wait, F fields as they stand: no piece of text is open behind them.
+pub fn begin_line(out: &mut [u8], lines: Lines, names: &[u8]) -> Line
+    requires { ⌜ InBounds lines × (length (now names) < 65536) ⌝ }
+    ensures { λ r. ⌜ LineBegun lines r 65538 × (r .cols ≡ 0) ⌝ }
+    ensures { λ r. ⌜ BeginsLine (now (out .entry)) (now (names .entry)) (now (out .exit)) r ⌝ }
+{
+    let base = lines.at + 3;
+    let at = put_bytes(out, base, names);
+    Line {
+        base,
+        at,
+        piece: at,
+        annotation: 0,
+        cols: 0,
     }
 }
 
@@ -104,20 +134,7 @@ pub fn add_border(
     put_border(out, lines, annotation, segs)
 }
 
-// The lines and what hangs behind them stand in the store from 5 on, up to a place; the head comes last, or the store is too short.
-fn finish(place: usize, count: usize, store: &mut [u8]) -> Rendered
-    ensures { λ r. ⌜ Finishes place count (now (store .entry)) r (now (store .exit)) ⌝ }
-{
-    if store.len() < place {
-        refuse(8, store);
-        return Rendered::StoreShort(place);
-    }
-    let number = put_head(store, 0, b'H', 2);
-    put_two(store, number, count % 65536);
-    Rendered::Sheet(place)
-}
-
-// The end of a call: refusal 7, 9 or 8, or the head in front of the lines and what hangs behind them.
+// The end of a call: refusal 7, 9 or 8, or the head in front of the lines and what stands behind them.
 pub fn close(lines: Lines, store: &mut [u8]) -> Rendered
     ensures { λ r. ⌜ Closes lines (now (store .entry)) r (now (store .exit)) ⌝ }
 {

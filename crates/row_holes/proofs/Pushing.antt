@@ -19,7 +19,7 @@ use Rattle.fields.specs.TaggedLine.{join, push-str, push, consume}
 use Rattle.rows.proofs.Lines.{consume-push}
 use Rattle.fields.specs.Spans.{Hole}
 use Rattle.tagged_line.proofs.Holding.{pieces-append}
-use Rattle.row_lines.proofs.Growing.{sizeOf, size-cons, size-str, size-none}
+use Rattle.extend_lines.proofs.Growing.{sizeOf, size-cons, size-str, size-none}
 
 -- ---- what a text costs behind a line
 

@@ -49,7 +49,8 @@ use Rattle.extend_lines.proofs.Emitting.{held-new}
 use Rattle.long_borders.specs.Keeps.{Near, Advances}
 use Rattle.long_borders.proofs.Laws.{near-low, near-sym}
 use Rattle.row_lines.specs.Row.{isLong}
-use Rattle.row_lines.proofs.Growing.{or-first, or-second, sizeOf, size-none, grow-str, grow-push, short-line}
+use Rattle.extend_lines.proofs.Growing.{or-first, or-second, sizeOf, size-none, grow-str, grow-push}
+use Rattle.row_lines.proofs.Growing.{short-line}
 use Rattle.row_lines.proofs.SeatLaws.{text-filled, text-full}
 use Rattle.row_lines.proofs.RowLaws.{startOf, start-at}
 use Rattle.row_holes.specs.Through.{seatThrough}

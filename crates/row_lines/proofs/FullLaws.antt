@@ -23,7 +23,8 @@ use Rattle.row_lines.specs.Place.{down}
 use Rattle.row_lines.specs.Mark.{StartsAhead}
 use Rattle.row_lines.specs.Rest.{columnsDown, LaysRest}
 use Rattle.row_lines.specs.Full.{RowAt, allColumns, LaysFull, AddsFullLine, AddsFull, AddsRow}
-use Rattle.row_lines.proofs.Growing.{or-first, or-second, sizeOf, long-unfit, long-size}
+use Rattle.extend_lines.proofs.Growing.{or-first, or-second, sizeOf, long-unfit}
+use Rattle.row_lines.proofs.Growing.{long-size}
 use Rattle.row_lines.proofs.RowLaws.{or-true, lines-count, lines-first, misfit-first, long-more}
 
 -- the first columns of a line that can be drawn can be, and the others

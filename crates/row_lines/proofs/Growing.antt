@@ -23,64 +23,11 @@ use Rattle.tagged_line.proofs.Holding.{pieces-append}
 use Rattle.fields.specs.Spans.{RenderLine, text, border}
 use Rattle.rows.specs.Answer.{fits}
 use Rattle.rows.specs.Columns.{Column, addColumn}
+use Rattle.extend_lines.proofs.Growing.{or-first, or-second, sizeOf, size-cons, size-str, size-none, grow-str, grow-push, grow-consume}
 use Rattle.row_lines.specs.Seat.{opened}
 use Rattle.tagged_line.specs.Held.{Held}
 use Rattle.tagged_line.specs.declared.line.Line.{Line}
 use Rattle.row_lines.specs.Row.{isLong, columnsFrom}
-
-pub or-first : (a b : Bool) → (a || b) ≡ false → a ≡ false
-or-first true b e = e
-or-first false b e = refl
-
-pub or-second : (a b : Bool) → (a || b) ≡ false → b ≡ false
-or-second true b e = absurd (let z : _≡_ {A = ℕ} 0 1 = cc in omega arith)
-or-second false b e = e
-
--- how many bytes the pieces of a line have
-abbrev pub sizeOf : List Piece → ℕ
-sizeOf l = length (piecesBytes l)
-
-pub size-cons : (p : Piece) (l : List Piece) → sizeOf (p ∷ l) ≡ length (pieceBytes p) + sizeOf l
-unfolding piecesBytes
-size-cons p l = length-append (pieceBytes p) (piecesBytes l)
-
-pub size-str : (a : ℕ) (t : List ℕ) → length (pieceBytes (str a t)) ≡ 4 + length t
-unfolding field
-size-str a t = omega (arith)
-
-pub size-none : sizeOf [] ≡ 0
-unfolding piecesBytes
-size-none = refl
-
-grow-onto : (p : Piece) (a : ℕ) (t : List ℕ) → length (pieceBytes p) ≤ sizeOf (onto p a t)
-grow-onto (fragment n) a t = omega (arith, size-cons (fragment n) (str a t ∷ []))
-grow-onto (str b s) a t =
-    by-if (λ (x : List Piece). length (pieceBytes (str b s)) ≤ sizeOf x) (eqb b a)
-    (λ _. omega (arith, size-cons (str b (s ++ t)) [], size-str b (s ++ t), size-str b s, length-append s t))
-    (λ _. omega (arith, size-cons (str b s) (str a t ∷ [])))
-
-grow-join : (l : List Piece) (a : ℕ) (t : List ℕ) → sizeOf l ≤ sizeOf (join l a t)
-unfolding join
-grow-join [] a t = omega (arith, size-none)
-grow-join (p ∷ []) a t = omega (arith, grow-onto p a t, size-cons p [], size-none)
-grow-join (p ∷ q ∷ l) a t = omega (arith, grow-join (q ∷ l) a t, size-cons p (q ∷ l), size-cons p (join (q ∷ l) a t))
-
--- Text that is pushed.
-pub grow-str : (l : List Piece) (a : ℕ) (t : List ℕ) → sizeOf l ≤ sizeOf (push-str l a t)
-unfolding push-str
-grow-str l a [] = omega arith
-grow-str l a (b ∷ t) = grow-join l a (b ∷ t)
-
--- A piece that is pushed.
-pub grow-push : (l : List Piece) (p : Piece) → sizeOf l ≤ sizeOf (push l p)
-unfolding push
-grow-push l (str a t) = grow-str l a t
-grow-push l (fragment n) = omega (arith, ap length (pieces-append l (fragment n ∷ [])), length-append (piecesBytes l) (piecesBytes (fragment n ∷ [])))
-
-grow-consume : (l ps : List Piece) → sizeOf l ≤ sizeOf (consume l ps)
-unfolding consume
-grow-consume l [] = omega arith
-grow-consume l (p ∷ ps) = omega (arith, grow-push l p, grow-consume (push l p) ps)
 
 grow-column : (s : RenderOptions) (l : List Piece) (c : Column) (ls : List RenderLine) → sizeOf l ≤ sizeOf (addColumn s l c ls)
 grow-column s l c [] = grow-str l _ _
@@ -97,14 +44,6 @@ unfolding columnsFrom
 grow-columns s k l [] = omega arith
 grow-columns s k l (c ∷ cs) =
     omega (arith, grow-opened s k l, grow-column s (opened s k l) c (c .lines), grow-columns s (suc k) (addColumn s (opened s k l) c (c .lines)) cs)
-
--- A line that is too long does not fit, padded or not.
-pub long-unfit : (s : RenderOptions) (l : List Piece) → 65535 < sizeOf l → fits (padded s (text l)) ≡ false
-unfolding padded pad-to push-ws
-long-unfit s l h =
-    let g = grow-str l (s .annotation) (replicate (s .width - width l) 0x20) in
-    let k : 65535 < sizeOf (push-str l (s .annotation) (replicate (s .width - width l) 0x20)) = omega arith in
-    by-if (λ (x : RenderLine). fits x ≡ false) (s .pad) (λ _. lt-leb (sizeOf (push-str l (s .annotation) (replicate (s .width - width l) 0x20))) 65535 k) (λ _. lt-leb (sizeOf l) 65535 h)
 
 -- ---- columns and bytes
 

@@ -33,7 +33,8 @@ use Rattle.row_lines.specs.Place.{down}
 use Rattle.row_lines.specs.Mark.{LinesOf, StandsAt, markAt, Marked, FindsFirst, FindsCursor, CursorSet, SomeSet, StartsMark, AllMarked, StartsMarks}
 use Rattle.row_lines.specs.Rest.{columnDown, MarkedIn, AddsMarked, AddsFound, columnsDown, LaysRest}
 use Rattle.row_lines.specs.declared.seat.Added.{Added}
-use Rattle.row_lines.proofs.Growing.{or-first, or-second, sizeOf, grow-columns, short-line}
+use Rattle.extend_lines.proofs.Growing.{or-first, or-second, sizeOf}
+use Rattle.row_lines.proofs.Growing.{grow-columns, short-line}
 use Rattle.row_lines.proofs.RowLaws.{columns-later, startOf}
 
 -- ---- one seat

@@ -27,7 +27,8 @@ use Rattle.extend_lines.proofs.Emitting.{held-new}
 use Rattle.row_lines.specs.Seat.{seatMost, AddedIn, LeftAt, AddsKept, opened, OpensSeat}
 use Rattle.row_lines.specs.Row.{columnAt, ColumnsAt, isLong, columnsFrom, LaysKept}
 use Rattle.row_lines.specs.declared.seat.Added.{Added}
-use Rattle.row_lines.proofs.Growing.{or-first, or-second, sizeOf, grow-columns, short-line}
+use Rattle.extend_lines.proofs.Growing.{or-first, or-second, sizeOf}
+use Rattle.row_lines.proofs.Growing.{grow-columns, short-line}
 
 -- ---- a line of the row
 

@@ -17,7 +17,7 @@ use Rattle.fields.specs.Field.{two, field, Raw, whole, broken, raws, both, read
 use Rattle.fields.specs.Sheet.{Piece, readPiece, isSegment, pieceBytes, piecesBytes}
 use Rattle.fields.proofs.Back.{Every}
 use Rattle.rows.proofs.Reading.{OnSome, some-of, Bytes, bytes-take, bytes-drop, rawBytes, rawsBytes, IsWhole, OfBytes, two-back, field-back, splits, Same, each, SameAll, same-all, from-same, same-piece, pieces-same, on-map}
-use Rattle.fields.specs.Spans.{Hole, hole, RenderLine, text, Hanging, hanging, Sheet, RawHole, rawHolesF, rawHoles, readHole, readHoles, endsWithin, holed, readHoled, readBorder, readLine, isSpan, readHangingContent, readHanging, isHanging, beforeHanging, fromHanging, counted, readHeaded, readSheet, holesBytes, content, letter, linesBytes, hangingContent, overhangBytes, sheetBytes}
+use Rattle.fields.specs.Spans.{Hole, hole, RenderLine, text, Hanging, hanging, Sheet, RawHole, rawHolesF, rawHoles, readHole, readHoles, endsWithin, holed, readHoled, readBorder, readLine, isSpan, readHangingContent, readHanging, isHanging, beforeHanging, fromHanging, readName, isName, beforeNames, fromNames, parts, counted, readHeaded, readSheet, holesBytes, content, letter, linesBytes, hangingContent, overhangBytes, namesBytes, bodyBytes, sheetBytes}
 use Rattle.fields.proofs.SpansBack.{past-head}
 
 -- ---- holes
@@ -166,6 +166,31 @@ unfolding overhangBytes
 overhang-each [] = refl
 overhang-each (v ∷ vs) = ap (λ (x : List ℕ). hangingBytes v ++ x) (overhang-each vs)
 
+-- ---- the names that wait
+
+-- an F field
+abbrev pub nameBytes : List ℕ → List ℕ
+nameBytes n = field 0x46 n
+
+same-name : (r : Raw) → OfBytes r → OnSome (Same nameBytes r) (readName r)
+unfolding readName
+same-name broken h = tt
+same-name (whole l t) h =
+    by-if (OnSome (Same nameBytes (whole l t))) (eqb l 0x46) (λ e. (tt, ap (λ (x : ℕ). field x t) (sym (eqb-true l 0x46 e)))) (λ _. tt)
+
+names-each : (ns : List (List ℕ)) → namesBytes ns ≡ each nameBytes ns
+unfolding namesBytes
+names-each [] = refl
+names-each (n ∷ ns) = ap (λ (x : List ℕ). nameBytes n ++ x) (names-each ns)
+
+-- F fields that are read from bytes have these bytes.
+pub names-same : (bs : List ℕ) → Bytes bs → OnSome (λ ns. namesBytes ns ≡ bs) (readAll readName (raws bs))
+names-same bs h = go (readAll readName (raws bs)) (same-all nameBytes readName same-name (raws bs) (splits bs h .0))
+  where
+    go : (o : Option (List (List ℕ))) → OnSome (SameAll nameBytes (raws bs)) o → OnSome (λ ns. namesBytes ns ≡ bs) o
+    go none k = tt
+    go (some ns) k = names-each ns ∙ from-same nameBytes bs (raws bs) (splits bs h) ns k
+
 -- ---- the sheet
 
 split-whole : (rs : List Raw) → beforeHanging rs ++ fromHanging rs ≡ rs
@@ -176,6 +201,21 @@ split-whole (r ∷ rs) = go (isHanging r) (split-whole rs)
     go : (b : Bool) → beforeHanging rs ++ fromHanging rs ≡ rs → (if b then [] else r ∷ beforeHanging rs) ++ (if b then r ∷ rs else fromHanging rs) ≡ r ∷ rs
     go true e = refl
     go false e = ap (λ (l : List Raw). r ∷ l) e
+
+split-names : (rs : List Raw) → beforeNames rs ++ fromNames rs ≡ rs
+unfolding beforeNames fromNames
+split-names [] = refl
+split-names (r ∷ rs) = go (isName r) (split-names rs)
+  where
+    go : (b : Bool) → beforeNames rs ++ fromNames rs ≡ rs → (if b then [] else r ∷ beforeNames rs) ++ (if b then r ∷ rs else fromNames rs) ≡ r ∷ rs
+    go true e = refl
+    go false e = ap (λ (l : List Raw). r ∷ l) e
+
+-- the three parts are all fields
+split-three : (rs : List Raw) → beforeNames (beforeHanging rs) ++ (fromNames (beforeHanging rs) ++ fromHanging rs) ≡ rs
+split-three rs =
+    sym (append-assoc (beforeNames (beforeHanging rs)) (fromNames (beforeHanging rs)) (fromHanging rs))
+    ∙ ap (λ (l : List Raw). l ++ fromHanging rs) (split-names (beforeHanging rs)) ∙ split-whole rs
 
 every-left : {A : Type 0} (P : A → Type 0) (l m : List A) → Every P (l ++ m) → Every P l
 every-left P [] m h = tt
@@ -196,40 +236,45 @@ raws-append (r ∷ l) m = ap (λ (b : List ℕ). rawBytes r ++ b) (raws-append l
 abbrev SameSheet : List Raw → Sheet → Type 0
 SameSheet rs t = Every IsWhole rs × (sheetBytes t ≡ rawsBytes rs)
 
-same-counted : (l : ℕ) (t : List ℕ) (xs bs : List Raw) → l ≡ 0x48 → Bytes t → (o : Option (List RenderLine)) (q : Option (List Hanging))
-    → OnSome (SameAll lineBytes xs) o → OnSome (SameAll hangingBytes bs) q
-    → OnSome (SameSheet (whole l t ∷ xs ++ bs)) (counted t o q)
+same-counted : (l : ℕ) (t : List ℕ) (xs ys zs : List Raw) → l ≡ 0x48 → Bytes t
+    → (o : Option (List RenderLine)) (p : Option (List (List ℕ))) (q : Option (List Hanging))
+    → OnSome (SameAll lineBytes xs) o → OnSome (SameAll nameBytes ys) p → OnSome (SameAll hangingBytes zs) q
+    → OnSome (SameSheet (whole l t ∷ xs ++ (ys ++ zs))) (counted t (parts o p q))
 unfolding sheetBytes
-same-counted l t xs bs e h none q k m = tt
-same-counted l t xs bs e h (some ls) none k m = tt
-same-counted l [] xs bs e h (some ls) (some vs) k m = tt
-same-counted l (a ∷ []) xs bs e h (some ls) (some vs) k m = tt
-same-counted l (a ∷ b ∷ []) xs bs e h (some ls) (some vs) k m =
-    by-if (OnSome (SameSheet (whole l (a ∷ b ∷ []) ∷ xs ++ bs))) (eqb (a * 256 + b) (length ls))
+same-counted l t xs ys zs e h none p q k j m = tt
+same-counted l t xs ys zs e h (some ls) none q k j m = tt
+same-counted l t xs ys zs e h (some ls) (some ns) none k j m = tt
+same-counted l [] xs ys zs e h (some ls) (some ns) (some vs) k j m = tt
+same-counted l (a ∷ []) xs ys zs e h (some ls) (some ns) (some vs) k j m = tt
+same-counted l (a ∷ b ∷ []) xs ys zs e h (some ls) (some ns) (some vs) k j m =
+    by-if (OnSome (SameSheet (whole l (a ∷ b ∷ []) ∷ xs ++ (ys ++ zs)))) (eqb (a * 256 + b) (length ls))
     (λ c. let n = two-back a b (length ls) (h .1 .0) (eqb-true (a * 256 + b) (length ls) c) in (
-      (tt, every-both IsWhole xs bs (k .0) (m .0)),
+      (tt, every-both IsWhole xs (ys ++ zs) (k .0) (every-both IsWhole ys zs (j .0) (m .0))),
       rw (n .0, n .1, e)
           (ap (λ (x : List ℕ). field 0x48 (a ∷ b ∷ []) ++ x)
-          (ap₂ (λ (x y : List ℕ). x ++ y) (lines-each ls ∙ k .1) (overhang-each vs ∙ m .1) ∙ sym (raws-append xs bs))),
+          (ap₂ (λ (x y : List ℕ). x ++ y) (lines-each ls ∙ k .1)
+          (ap₂ (λ (x y : List ℕ). x ++ y) (names-each ns ∙ j .1) (overhang-each vs ∙ m .1) ∙ sym (raws-append ys zs))
+          ∙ sym (raws-append xs (ys ++ zs)))),
     ))
     (λ _. tt)
-same-counted l (a ∷ b ∷ c ∷ t) xs bs e h (some ls) (some vs) k m = tt
+same-counted l (a ∷ b ∷ c ∷ t) xs ys zs e h (some ls) (some ns) (some vs) k j m = tt
 
 same-headed : (rs : List Raw) → Every OfBytes rs → OnSome (SameSheet rs) (readHeaded rs)
 unfolding readHeaded
 same-headed [] h = tt
 same-headed (broken ∷ rs) h = tt
 same-headed (whole l t ∷ rs) h =
-    let xs = beforeHanging rs in
-    let bs = fromHanging rs in
-    let g : Every OfBytes (xs ++ bs) = rw (split-whole rs) (h .1) in
+    let xs = beforeNames (beforeHanging rs) in
+    let ys = fromNames (beforeHanging rs) in
+    let zs = fromHanging rs in
+    let g : Every OfBytes (xs ++ (ys ++ zs)) = rw (split-three rs) (h .1) in
+    let gr = every-right OfBytes xs (ys ++ zs) g in
     by-if (OnSome (SameSheet (whole l t ∷ rs))) (eqb l 0x48)
-    (λ e. again rs (counted t (readAll readLine xs) (readAll readHanging bs)) (same-counted l t xs bs (eqb-true l 0x48 e) (h .0) (readAll readLine xs) (readAll readHanging bs)
-    (same-all lineBytes readLine same-line xs (every-left OfBytes xs bs g)) (same-all hangingBytes readHanging same-hanging bs (every-right OfBytes xs bs g))))
+    (λ e. subst (λ (q : List Raw). OnSome (SameSheet (whole l t ∷ q)) (counted t (parts (readAll readLine xs) (readAll readName ys) (readAll readHanging zs)))) (split-three rs)
+    (same-counted l t xs ys zs (eqb-true l 0x48 e) (h .0) (readAll readLine xs) (readAll readName ys) (readAll readHanging zs)
+    (same-all lineBytes readLine same-line xs (every-left OfBytes xs (ys ++ zs) g)) (same-all nameBytes readName same-name ys (every-left OfBytes ys zs gr))
+    (same-all hangingBytes readHanging same-hanging zs (every-right OfBytes ys zs gr))))
     (λ _. tt)
-  where
-    again : (rs : List Raw) (o : Option Sheet) → OnSome (SameSheet (whole l t ∷ beforeHanging rs ++ fromHanging rs)) o → OnSome (SameSheet (whole l t ∷ rs)) o
-    again rs o g = subst (λ (q : List Raw). OnSome (SameSheet (whole l t ∷ q)) o) (split-whole rs) g
 
 -- A SHEET THAT IS READ FROM BYTES AND WRITTEN AGAIN HAS THESE BYTES.
 pub sheet-same : (bs : List ℕ) → Bytes bs → OnSome (λ t. sheetBytes t ≡ bs) (readSheet bs)
@@ -240,6 +285,7 @@ sheet-same bs h = go (readHeaded (raws bs)) (same-headed (raws bs) (splits bs h 
     go none k = tt
     go (some t) k = k .1 ∙ splits bs h .1 (k .0)
 
--- Its lines and what hangs from it stand past its head.
-pub lines-stood : (bs : List ℕ) (t : Sheet) → readSheet bs ≡ some t → Bytes bs → linesBytes (t .lines) ++ overhangBytes (t .overhang) ≡ drop 5 bs
-lines-stood bs t e h = sym (past-head t) ∙ ap (drop 5) (some-of (λ rs. sheetBytes rs ≡ bs) (readSheet bs) t e (sheet-same bs h))
+-- Its lines, names and what hangs from it stand past its head.
+pub parts-stood : (bs : List ℕ) (t : Sheet) → readSheet bs ≡ some t → Bytes bs
+    → bodyBytes (t .lines) (t .names) (t .overhang) ≡ drop 5 bs
+parts-stood bs t e h = sym (past-head t) ∙ ap (drop 5) (some-of (λ rs. sheetBytes rs ≡ bs) (readSheet bs) t e (sheet-same bs h))

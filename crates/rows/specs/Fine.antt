@@ -51,6 +51,7 @@ pub record FineHanging (v : Hanging) : Type 0 where
 -- a sheet
 pub record FineSheet (t : Sheet) : Type 0 where
   pub lines : FineLines (t .lines)
+  pub names : Every Fine (t .names)
   pub overhang : Every FineHanging (t .overhang)
 
 -- a cell
