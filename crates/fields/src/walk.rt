@@ -9,9 +9,9 @@ use crate::field::Field;
 use crate::field::field_at;
 use crate::field::first_of;
 use crate::judge::job_field_refusal;
+use crate::judge::name_refusal;
 use crate::judge::piece_refusal;
 use crate::judge::prefix_refusal;
-use crate::judge::name_refusal;
 
 // What a list of fields holds: T and F of a job, S and F of a line, P, or F after the lines of a sheet.
 pub enum Kind {

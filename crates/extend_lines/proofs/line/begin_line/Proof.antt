@@ -23,8 +23,7 @@ returns c =
     let d = c .before .before in
     let w = d .put-bytes .ensures in
     let few = d .before .before .before .before .before .pre .1 in
-    let known = d .before .before .before .shared-slice-known .given in
-    (
+    let known = d .before .before .before .shared-slice-known .given in (
       (record { base = refl; on = omega (arith, w .place); piece = omega arith; at = omega (arith, w .place, few); cols = omega arith }, refl),
       begins _ _ (now (d .before .before .before .before .before .args .names)) _ (bytes-known (now (d .before .before .before .before .before .args .names)) (λ i. omega (arith, known i))) refl refl w,
     )
