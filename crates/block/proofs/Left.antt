@@ -28,7 +28,7 @@ pub name-waits : (n : List ℕ) (b : Block) → hasText (b .word) ≡ false → 
 unfolding trailing addElement
 name-waits n b e = rw (text-name (b .word) n, e) (names-snoc (b .word) n)
 
--- Where the open word has text no name waits: its names go to the line with it.
+-- Where the open word has text no name waits: its names stay with it.
 pub none-wait : (b : Block) → hasText (b .word) ≡ true → trailing b ≡ []
 unfolding trailing
 none-wait b e = rw e
