@@ -1,5 +1,5 @@
--- THE BASE STAYS: on inputs without K, G and V fields, good or broken, the three calls of request 2.1 answer what document 01's do:
--- number, length and every byte of the store.
+-- THE BASE STAYS: on inputs without K, G and V fields and without names that wait, good or broken, the three calls of requests 2.1 and 2.2
+-- answer what document 01's do: number, length and every byte of the store.
 -- Assumes nothing.
 use mathlib.Core.Path.{_≡_, refl, sym, ap, ap₂, _∙_}
 use mathlib.Core.Bool.{Bool, true, false, not, _&&_, _||_, true≢false}
@@ -15,18 +15,18 @@ use Rattle.characters.proofs.Tests.{and-left, and-right}
 use Rattle.fields.specs.Field.{field, Raw, whole, broken, raws, both, readAll, all}
 use Rattle.fields.specs.Text.{readableText}
 use Rattle.fields.specs.Sheet.{Piece, readPiece, isSegment, upTo16, readPrefixes, RenderLine as BaseLine, text as base-text, border as base-border, Cell as BaseCell, readBorder as base-readBorder, readLine as base-readLine, counted as base-counted, readHeaded as base-readHeaded, readSheet as base-readSheet, readCellContent as base-readCellContent, readCell as base-readCell, readCells as base-readCells, readableLine as base-readableLine, readableLines as base-readableLines, readableCell as base-readableCell, content as base-content, letter as base-letter, linesBytes as base-linesBytes, sheetBytes as base-sheetBytes}
-use Rattle.fields.specs.Answer.{inStore, Verdict as BaseVerdict, refused as base-refused, sheet as base-sheet, give as base-give}
+use Rattle.fields.specs.Answer.{Verdict, refused, inStore, give}
 use Rattle.fields.proofs.Back.{Every}
 use Rattle.borders.specs.BorderSegHoriz.{Horiz, HorizVert}
 use Rattle.borders.specs.BorderHoriz.{new-type, stretch-to, join-above, join-below, merge-from-below, merge-from-above, to-vertical-lines-above, borderOf, to-string-from, holed-to-string, into-tagged-from, border-into-tagged-line}
 use Rattle.fields.specs.TaggedLine.{push-str}
 use Rattle.rows.specs.declared.RenderOptions.{RenderOptions}
-use Rattle.rows.specs.SubRenderer.{later, max, edge, padded, add-line, extend-lines, ifDrawn, withPrefix, prefixed, append-subrender, LineSet, lineSet, filled, lineSets, widths, placing, placeAll, placed, onLast, endsInBorder, joinEdges, prevBorder, nextBorder, startsBorder, top, withoutTop, mergeTops, dropTop, bottom, withoutBottom, mergeBottoms, dropBottom, height, fill, addCell, rowLine, rest, nextLine, rowLines, Hangs, hangs, hangOne, hangAll, row, appendLineSets, append-columns-with-borders, anyStartsBorder, noBorderAbove, between, appendEach, append-vert-row}
+use Rattle.rows.specs.SubRenderer.{Extended, extended, onSheet, stillWaiting, later, max, edge, padded, add-line, extend-lines, ifDrawn, withPrefix, prefixed, append-subrender, LineSet, lineSet, filled, lineSets, widths, placing, placeAll, placed, onLast, endsInBorder, joinEdges, prevBorder, nextBorder, startsBorder, top, withoutTop, mergeTops, dropTop, bottom, withoutBottom, mergeBottoms, dropBottom, height, fill, addCell, rowLine, rest, nextLine, rowLines, Hangs, hangs, hangOne, hangAll, row, appendLineSets, append-columns-with-borders, anyStartsBorder, noBorderAbove, between, appendEach, append-vert-row}
 use Rattle.base.specs.SubRenderer.{padded as base-padded, add-line as base-add-line, extend-lines as base-extend-lines, withPrefix as base-withPrefix, prefixed as base-prefixed, append-subrender as base-append-subrender, LineSet as BaseSet, filled as base-filled, lineSets as base-lineSets, widths as base-widths, onLast as base-onLast, endsInBorder as base-endsInBorder, joinEdges as base-joinEdges, prevBorder as base-prevBorder, nextBorder as base-nextBorder, startsBorder as base-startsBorder, top as base-top, withoutTop as base-withoutTop, mergeTops as base-mergeTops, dropTop as base-dropTop, bottom as base-bottom, withoutBottom as base-withoutBottom, mergeBottoms as base-mergeBottoms, dropBottom as base-dropBottom, height as base-height, addCell as base-addCell, rowLine as base-rowLine, rest as base-rest, nextLine as base-nextLine, rowLines as base-rowLines, row as base-row, ifDrawn as base-ifDrawn, appendLineSets as base-appendLineSets, append-columns-with-borders as base-append-columns, anyStartsBorder as base-anyStartsBorder, noBorderAbove as base-noBorderAbove, between as base-between, appendEach as base-appendEach, append-vert-row as base-append-vert-row}
-use Rattle.base.specs.Answer.{hasWidth as base-wide, fits as base-fits, finished as base-finished, subrenderVerdict as base-subrenderVerdict, columnsVerdict as base-columnsVerdict, vertRowVerdict as base-vertRowVerdict, subrenderAnswer as base-subrenderAnswer, columnsAnswer as base-columnsAnswer, vertRowAnswer as base-vertRowAnswer}
-use Rattle.fields.specs.Spans.{RenderLine, text, border, sheetOf, cell, readBorder, readLine, isHanging, beforeHanging, fromHanging, counted, readHeaded, readSheet, readCellContent, readCell, readCells, readPlainCell, readPlainCells, wide, readableLine, readableLines, readableCell, content, letter, linesBytes, overhangBytes, sheetBytes}
-use Rattle.rows.specs.Answer.{Verdict, refused, give, fits, finished, subrenderVerdict, columnsVerdict, vertRowVerdict, subrenderAnswer, columnsAnswer, vertRowAnswer}
-use Rattle.base.specs.Base.{asLine, asSheet, asCell, asVerdict, notHoled, notHanging, baseSheet, baseCell, baseCells}
+use Rattle.base.specs.Answer.{Verdict as BaseVerdict, refused as base-refused, sheet as base-sheet, give as base-give, hasWidth as base-wide, fits as base-fits, finished as base-finished, subrenderVerdict as base-subrenderVerdict, columnsVerdict as base-columnsVerdict, vertRowVerdict as base-vertRowVerdict, subrenderAnswer as base-subrenderAnswer, columnsAnswer as base-columnsAnswer, vertRowAnswer as base-vertRowAnswer}
+use Rattle.fields.specs.Spans.{RenderLine, text, border, cell, readBorder, readLine, isHanging, beforeHanging, fromHanging, isName, beforeNames, fromNames, parts, counted, readHeaded, readSheet, readCellContent, readCell, readCells, readPlainCell, readPlainCells, wide, readableLine, readableLines, readableNames, readableSheet, readableCell, content, letter, linesBytes, overhangBytes, namesBytes, sheetBytes}
+use Rattle.rows.specs.Answer.{fits, finished, subrenderVerdict, columnsVerdict, vertRowVerdict, subrenderAnswer, columnsAnswer, vertRowAnswer}
+use Rattle.base.specs.Base.{asLine, asSheet, asCell, asVerdict, notHoled, notHanging, notName, baseSheet, baseCell, baseCells}
 
 -- ---- options, choices and lists
 
@@ -121,28 +121,49 @@ from-none [] e = refl
 from-none (r ∷ rs) e =
     rw (not-hanging r (and-left (notHanging r) (all notHanging rs) e)) (from-none rs (and-right (notHanging r) (all notHanging rs) e))
 
-counted-base : (t : List ℕ) (o : Option (List BaseLine)) → counted t (Option·map (map asLine) o) (some []) ≡ Option·map asSheet (base-counted t o)
+not-name : (r : Raw) → notName r ≡ true → isName r ≡ false
+not-name broken e = refl
+not-name (whole l t) e = not-true (eqb l 0x46) e
+
+before-unnamed : (rs : List Raw) → all notName rs ≡ true → beforeNames rs ≡ rs
+unfolding beforeNames all
+before-unnamed [] e = refl
+before-unnamed (r ∷ rs) e =
+    rw (not-name r (and-left (notName r) (all notName rs) e)) (ap (λ (l : List Raw). r ∷ l) (before-unnamed rs (and-right (notName r) (all notName rs) e)))
+
+from-unnamed : (rs : List Raw) → all notName rs ≡ true → fromNames rs ≡ []
+unfolding fromNames all
+from-unnamed [] e = refl
+from-unnamed (r ∷ rs) e =
+    rw (not-name r (and-left (notName r) (all notName rs) e)) (from-unnamed rs (and-right (notName r) (all notName rs) e))
+
+counted-base : (t : List ℕ) (o : Option (List BaseLine)) → counted t (parts (Option·map (map asLine) o) (some []) (some [])) ≡ Option·map asSheet (base-counted t o)
 counted-base t none = refl
 counted-base [] (some ls) = refl
 counted-base (h ∷ []) (some ls) = refl
 counted-base (h ∷ o ∷ []) (some ls) = rw (length-map ls asLine) (pick-only asSheet (eqb (h * 256 + o) (length ls)) _ _ refl)
 counted-base (h ∷ o ∷ x ∷ xs) (some ls) = refl
 
-headed-base : (rs : List Raw) → all notHoled rs ≡ true → all notHanging rs ≡ true → readHeaded rs ≡ Option·map asSheet (base-readHeaded rs)
+headed-base : (rs : List Raw) → all notHoled rs ≡ true → all notHanging rs ≡ true → all notName rs ≡ true → readHeaded rs ≡ Option·map asSheet (base-readHeaded rs)
 unfolding readHeaded base-readHeaded all readAll
-headed-base [] e k = refl
-headed-base (broken ∷ rs) e k = refl
-headed-base (whole l t ∷ rs) e k =
+headed-base [] e k m = refl
+headed-base (broken ∷ rs) e k m = refl
+headed-base (whole l t ∷ rs) e k m =
     let e′ = and-right (notHoled (whole l t)) (all notHoled rs) e in
     let k′ = and-right (notHanging (whole l t)) (all notHanging rs) k in
+    let m′ = and-right (notName (whole l t)) (all notName rs) m in
     pick-only asSheet (eqb l 0x48) _ _
-    (rw (before-all rs k′, from-none rs k′, lines-base rs e′) (counted-base t (readAll base-readLine rs)))
+    (rw (before-all rs k′, from-none rs k′, before-unnamed rs m′, from-unnamed rs m′, lines-base rs e′) (counted-base t (readAll base-readLine rs)))
 
 -- THE SHEET IS THE BASE'S.
 pub sheet-base : (bs : List ℕ) → baseSheet bs ≡ true → readSheet bs ≡ Option·map asSheet (base-readSheet bs)
 unfolding readSheet base-readSheet
 sheet-base bs e =
-    headed-base (raws bs) (and-left (all notHoled (raws bs)) (all notHanging (raws bs)) e) (and-right (all notHoled (raws bs)) (all notHanging (raws bs)) e)
+    let x = all notHoled (raws bs) in
+    let y = all notHanging (raws bs) in
+    let z = all notName (raws bs) in
+    let f = and-left (x && y) z e in
+    headed-base (raws bs) (and-left x y f) (and-right x y f) (and-right (x && y) z e)
 
 content-base : (t : List ℕ) → all notHoled (raws (drop 1 t)) ≡ true → readCellContent t ≡ Option·map asCell (base-readCellContent t)
 content-base [] e = refl
@@ -185,12 +206,21 @@ unfolding padded base-padded border-into-tagged-line into-tagged-from
 padded-base s (base-text ps) = if-map asLine (s .pad) _ _ _ _ refl refl
 padded-base s (base-border a segs) = if-map asLine (s .pad) _ _ _ _ refl refl
 
-extend-base : (s : RenderOptions) (ls new : List BaseLine) → extend-lines s (map asLine ls) (map asLine new) ≡ map asLine (base-extend-lines s ls new)
+-- lines on which no name waits
+abbrev bare : List BaseLine → Extended
+bare ls = extended (map asLine ls) []
+
+none-waits : (l : RenderLine) → stillWaiting [] l ≡ []
+none-waits (text ps) = refl
+none-waits (border a segs hs) = refl
+
+extend-base : (s : RenderOptions) (ls new : List BaseLine) → extend-lines s (bare ls) (map asLine new) ≡ bare (base-extend-lines s ls new)
 unfolding extend-lines base-extend-lines add-line base-add-line
 extend-base s ls [] = refl
 extend-base s ls (n ∷ new) =
-    ap (λ (l : List RenderLine). extend-lines s l (map asLine new))
+    ap₂ (λ (l : List RenderLine) (ns : List (List ℕ)). extend-lines s (extended l ns) (map asLine new))
     (ap (λ (r : RenderLine). map asLine ls ++ (r ∷ [])) (padded-base s n) ∙ sym (map-append asLine ls (base-padded s n ∷ [])))
+    (none-waits (asLine n))
     ∙ extend-base s (base-add-line s ls n) new
 
 drawn-base : (s : RenderOptions) (l : BaseLine) → ifDrawn s (asLine l) ≡ map asLine (base-ifDrawn s l)
@@ -211,7 +241,7 @@ prefixed-base s rep (g ∷ gs) (p ∷ ps) = rw (prefix-base s p g) (rw (prefixed
 
 -- `append_subrender` IS THE BASE'S.
 pub subrender-lines-base : (s : RenderOptions) (old guest : List BaseLine) (rep : Bool) (ps : List (List ℕ))
-    → append-subrender s (map asLine old) (map asLine guest) rep ps ≡ some (map asLine (base-append-subrender s old guest rep ps))
+    → append-subrender s (bare old) (map asLine guest) rep ps ≡ some (bare (base-append-subrender s old guest rep ps))
 unfolding append-subrender base-append-subrender
 subrender-lines-base s old guest rep ps = rw (prefixed-base s rep guest ps) (ap some (extend-base s old (base-prefixed s rep guest ps)))
 
@@ -390,16 +420,16 @@ none-hangs s n pos q h (d ∷ ds) = none-hangs s n (pos + d .width + 1) (q + d .
 -- ---- the call
 
 row-base : (s : RenderOptions) (old : List BaseLine) (t q : ℕ) (ds : List BaseSet) (b : List ℕ) → Every (λ (d : BaseSet). d .width ≤ t) ds
-    → row s (map asLine old) t (asSets q ds) b ≡ some (asSheet (base-extend-lines s old (base-row s ds b)))
+    → row s (bare old) t (asSets q ds) b ≡ some (asSheet (base-extend-lines s old (base-row s ds b)))
 unfolding row base-row
 row-base s old t q ds b h =
     let n = base-height ds in
     rw (height-base q ds)
     (rw (lines-laid s t n q ds h)
     (rw (none-hangs s n 0 q (hangs (borderOf b []) []) ds)
-    (ap (λ (ls : List RenderLine). some (sheetOf ls []))
-    (ap (λ (l : List RenderLine). extend-lines s (map asLine old) (map asLine (base-rowLines s n ds) ++ l)) (drawn-base s (base-border (s .annotation) b))
-    ∙ ap (extend-lines s (map asLine old)) (sym (map-append asLine (base-rowLines s n ds) (base-ifDrawn s (base-border (s .annotation) b))))
+    (ap (λ (a : Extended). some (onSheet a []))
+    (ap (λ (l : List RenderLine). extend-lines s (bare old) (map asLine (base-rowLines s n ds) ++ l)) (drawn-base s (base-border (s .annotation) b))
+    ∙ ap (extend-lines s (bare old)) (sym (map-append asLine (base-rowLines s n ds) (base-ifDrawn s (base-border (s .annotation) b))))
     ∙ extend-base s old (base-rowLines s n ds ++ base-ifDrawn s (base-border (s .annotation) b))))))
 
 last-base : (f g : List ℕ → List ℕ) → ((b : List ℕ) → f b ≡ g b) → (old : List BaseLine) → onLast f (map asLine old) ≡ map asLine (base-onLast g old)
@@ -419,7 +449,7 @@ ends-base (base-text ps ∷ q ∷ old) = ends-base (q ∷ old)
 ends-base (base-border a segs ∷ q ∷ old) = ends-base (q ∷ old)
 
 append-base : (s : RenderOptions) (old : List BaseLine) (ds : List BaseSet) (collapse : Bool)
-    → appendLineSets s (map asLine old) (base-widths ds - 1) (asSets 0 ds) collapse ≡ some (asSheet (base-appendLineSets s old ds collapse))
+    → appendLineSets s (bare old) (base-widths ds - 1) (asSets 0 ds) collapse ≡ some (asSheet (base-appendLineSets s old ds collapse))
 unfolding appendLineSets base-appendLineSets
 append-base s old ds false =
     let t = base-widths ds - 1 in
@@ -476,7 +506,7 @@ between-base s true = refl
 between-base s false = drawn-base s (base-border (s .annotation) (new-type (s .width) HorizVert))
 
 each-base : (s : RenderOptions) (first : Bool) (old : List BaseLine) (cs : List BaseCell)
-    → appendEach s first (map asLine old) (map asCell cs) ≡ some (map asLine (base-appendEach s first old cs))
+    → appendEach s first (bare old) (map asCell cs) ≡ some (bare (base-appendEach s first old cs))
 unfolding appendEach base-appendEach
 each-base s first old [] = refl
 each-base s first old (c ∷ cs) =
@@ -487,12 +517,12 @@ each-base s first old (c ∷ cs) =
 
 -- `append_vert_row` IS THE BASE'S.
 pub vert-lines-base : (s : RenderOptions) (old : List BaseLine) (cs : List BaseCell)
-    → append-vert-row s (map asLine old) (map asCell cs) ≡ some (map asLine (base-append-vert-row s old cs))
+    → append-vert-row s (bare old) (map asCell cs) ≡ some (bare (base-append-vert-row s old cs))
 unfolding append-vert-row base-append-vert-row
 vert-lines-base s old cs =
     let last = base-border (s .annotation) (new-type (s .width) Horiz) in
     rw (each-base s true old cs)
-    (ap some (ap (extend-lines s (map asLine (base-appendEach s true old cs))) (drawn-base s last)
+    (ap some (ap (extend-lines s (bare (base-appendEach s true old cs))) (drawn-base s last)
     ∙ extend-base s (base-appendEach s true old cs) (base-ifDrawn s last)))
 
 -- ---- in bytes
@@ -508,7 +538,7 @@ lines-bytes (l ∷ ls) = ap₂ _++_ (line-bytes l) (lines-bytes ls)
 
 -- THE BYTES ARE THE BASE'S.
 pub sheet-bytes-base : (ls : List BaseLine) → sheetBytes (asSheet ls) ≡ base-sheetBytes ls
-unfolding sheetBytes base-sheetBytes overhangBytes
+unfolding sheetBytes base-sheetBytes overhangBytes namesBytes
 sheet-bytes-base ls = rw (length-map ls asLine) (rw (lines-bytes ls) (rw (append-nil (base-linesBytes ls))))
 
 fits-base : (l : BaseLine) → fits (asLine l) ≡ base-fits l
@@ -535,6 +565,10 @@ readable-base : (ls : List BaseLine) → readableLines (map asLine ls) ≡ base-
 unfolding readableLines base-readableLines
 readable-base ls = all-map asLine readableLine base-readableLine readable-line-base ls
 
+readable-sheet-base : (ls : List BaseLine) → readableSheet (asSheet ls) ≡ base-readableLines ls
+unfolding readableNames all
+readable-sheet-base ls = rw (readable-base ls, and-true (base-readableLines ls)) (and-true (base-readableLines ls))
+
 wide-cells : (cs : List BaseCell) → all wide (map asCell cs) ≡ all base-wide cs
 wide-cells cs = all-map asCell wide base-wide (λ c. refl) cs
 
@@ -545,12 +579,12 @@ readable-cells cs = all-map asCell readableCell base-readableCell (λ c. readabl
 
 subrender-verdict-base : (s : RenderOptions) (old guest : Option (List BaseLine)) (ps : Option (List (List ℕ))) (rep : Bool)
     → subrenderVerdict s (Option·map asSheet old) (Option·map asSheet guest) ps rep ≡ asVerdict (base-subrenderVerdict s old guest ps rep)
-unfolding subrenderVerdict base-subrenderVerdict all
+unfolding subrenderVerdict base-subrenderVerdict readableNames all
 subrender-verdict-base s none guest ps rep = refl
 subrender-verdict-base s (some old) none ps rep = refl
 subrender-verdict-base s (some old) (some guest) none rep = refl
 subrender-verdict-base s (some old) (some guest) (some ps) rep =
-    rw (readable-base old, readable-base guest, and-true (base-readableLines old), and-true (base-readableLines guest), subrender-lines-base s old guest rep ps)
+    rw (readable-sheet-base old, readable-sheet-base guest, subrender-lines-base s old guest rep ps)
     (narrow (eqb (s .width) 0) _ _ (if-map asVerdict (not (base-readableLines old && base-readableLines guest && all (readableText false) ps)) _ _ _ _ refl
     (finished-base (base-append-subrender s old guest rep ps))))
   where
@@ -561,22 +595,22 @@ subrender-verdict-base s (some old) (some guest) (some ps) rep =
 
 columns-verdict-base : (s : RenderOptions) (old : Option (List BaseLine)) (cs : Option (List BaseCell)) (collapse : Bool)
     → columnsVerdict s (Option·map asSheet old) (Option·map (map asCell) cs) collapse ≡ asVerdict (base-columnsVerdict s old cs collapse)
-unfolding columnsVerdict base-columnsVerdict all
+unfolding columnsVerdict base-columnsVerdict readableNames all
 columns-verdict-base s none cs collapse = refl
 columns-verdict-base s (some old) none collapse = refl
 columns-verdict-base s (some old) (some cs) collapse =
-    rw (wide-cells cs, and-true (all base-wide cs), readable-base old, and-true (base-readableLines old), readable-cells cs, six-base s old cs collapse, columns-lines-base s old cs collapse)
+    rw (wide-cells cs, and-true (all base-wide cs), readable-sheet-base old, readable-cells cs, six-base s old cs collapse, columns-lines-base s old cs collapse)
     (if-map asVerdict (eqb (s .width) 0 || not (all base-wide cs)) _ _ _ _ refl
     (if-map asVerdict (not (base-readableLines old && all base-readableCell cs)) _ _ _ _ refl
     (if-map asVerdict (base-noBorderAbove old cs collapse) _ _ _ _ refl (finished-base (base-append-columns s old cs collapse)))))
 
 vert-verdict-base : (s : RenderOptions) (old : Option (List BaseLine)) (cs : Option (List BaseCell))
     → vertRowVerdict s (Option·map asSheet old) (Option·map (map asCell) cs) ≡ asVerdict (base-vertRowVerdict s old cs)
-unfolding vertRowVerdict base-vertRowVerdict all
+unfolding vertRowVerdict base-vertRowVerdict readableNames all
 vert-verdict-base s none cs = refl
 vert-verdict-base s (some old) none = refl
 vert-verdict-base s (some old) (some cs) =
-    rw (wide-cells cs, and-true (all base-wide cs), readable-base old, and-true (base-readableLines old), readable-cells cs, vert-lines-base s old cs)
+    rw (wide-cells cs, and-true (all base-wide cs), readable-sheet-base old, readable-cells cs, vert-lines-base s old cs)
     (if-map asVerdict (eqb (s .width) 0 || not (all base-wide cs)) _ _ _ _ refl
     (if-map asVerdict (not (base-readableLines old && all base-readableCell cs)) _ _ _ _ refl (finished-base (base-append-vert-row s old cs))))
 

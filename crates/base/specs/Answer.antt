@@ -5,14 +5,24 @@ use mathlib.Core.Option.{Option, none, some}
 use mathlib.Core.List.{List}
 use Prim.Native.Nat.{ℕ}
 use lib.Dec.{leb, ltb, eqb}
-use lib.ListN.{length}
+use lib.ListN.{length, replicate}
 use Rattle.characters.specs.If.{if_then_else_}
 use Rattle.fields.specs.Field.{all}
 use Rattle.fields.specs.Text.{readableText}
-use Rattle.fields.specs.Sheet.{RenderLine, Cell, readSheet, readCells, readPrefixes, readableLines, readableCell, content}
-use Rattle.fields.specs.Answer.{Answer, Verdict, refused, sheet, give}
+use Rattle.fields.specs.Sheet.{RenderLine, Cell, readSheet, readCells, readPrefixes, readableLines, readableCell, content, sheetBytes}
+use Rattle.fields.specs.Answer.{Answer, inStore}
 use Rattle.base.specs.SubRenderer.{append-subrender, append-columns-with-borders, noBorderAbove, append-vert-row}
 use Rattle.rows.specs.declared.RenderOptions.{RenderOptions}
+
+-- what a call comes to, apart from the store: a refusal's number, or the lines of a sheet
+pub data Verdict : Type 0 where
+  refused : ℕ → Verdict
+  sheet : List RenderLine → Verdict
+
+-- a refusal zeroes the whole store
+unfoldable pub give : Verdict → List ℕ → Answer
+give (refused n) store = record { number = n; length = 0; store = replicate (length store) 0 }
+give (sheet ls) store = inStore (sheetBytes ls) store
 
 -- refusal 7 is not given to a line
 abbrev pub fits : RenderLine → Bool

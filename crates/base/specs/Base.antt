@@ -1,4 +1,4 @@
--- Document 01's sheets and cells among those of request 2.1, and inputs that have none of the request's fields.
+-- Document 01's sheets and cells among those of requests 2.1 and 2.2, and inputs that have none of the requests' fields.
 -- Assumes nothing: these are definitions.
 use mathlib.Core.Bool.{Bool, true, not, _&&_}
 use mathlib.Core.List.{List, [], map}
@@ -7,18 +7,18 @@ use lib.Dec.{eqb}
 use lib.ListN.{drop}
 use Rattle.fields.specs.Field.{Raw, whole, broken, raws, all}
 use Rattle.fields.specs.Sheet.{RenderLine as BaseLine, text as base-text, border as base-border, Cell as BaseCell}
-use Rattle.fields.specs.Answer.{Verdict as BaseVerdict, refused as base-refused, sheet as base-sheet}
+use Rattle.fields.specs.Answer.{Verdict, refused, sheet}
 use Rattle.fields.specs.Spans.{RenderLine, text, border, Sheet, sheetOf, Cell, cell}
-use Rattle.rows.specs.Answer.{Verdict, refused, sheet}
+use Rattle.base.specs.Answer.{Verdict as BaseVerdict, refused as base-refused, sheet as base-sheet}
 
 -- a line without holes
 abbrev pub asLine : BaseLine → RenderLine
 asLine (base-text ps) = text ps
 asLine (base-border a segs) = border a segs []
 
--- a sheet from which nothing hangs
+-- a sheet on which no name waits and from which nothing hangs
 abbrev pub asSheet : List BaseLine → Sheet
-asSheet ls = sheetOf (map asLine ls) []
+asSheet ls = sheetOf (map asLine ls) [] []
 
 -- a cell of one row
 abbrev pub asCell : BaseCell → Cell
@@ -29,7 +29,7 @@ abbrev pub asVerdict : BaseVerdict → Verdict
 asVerdict (base-refused n) = refused n
 asVerdict (base-sheet ls) = sheet (asSheet ls)
 
--- ---- inputs without the fields of request 2.1
+-- ---- inputs without the fields of requests 2.1 and 2.2
 
 -- no G field
 abbrev pub notHoled : Raw → Bool
@@ -41,9 +41,14 @@ abbrev pub notHanging : Raw → Bool
 notHanging broken = true
 notHanging (whole l content) = not (eqb l 0x56)
 
--- a sheet without G and V fields, good or broken
+-- no F field
+abbrev pub notName : Raw → Bool
+notName broken = true
+notName (whole l content) = not (eqb l 0x46)
+
+-- a sheet without G, V and F fields of its own, good or broken; a line may have names
 abbrev pub baseSheet : List ℕ → Bool
-baseSheet bs = all notHoled (raws bs) && all notHanging (raws bs)
+baseSheet bs = all notHoled (raws bs) && all notHanging (raws bs) && all notName (raws bs)
 
 -- no K field, and no G among a cell's lines
 abbrev pub baseCell : Raw → Bool
