@@ -14,7 +14,8 @@ use Rattle.characters.specs.If.{if_then_else_}
 use Rattle.characters.proofs.Tests.{and-left, and-right}
 use Rattle.fields.specs.Field.{field, Raw, whole, broken, raws, both, readAll, all}
 use Rattle.fields.specs.Text.{readableText}
-use Rattle.fields.specs.Sheet.{Piece, readPiece, isSegment, upTo16, readPrefixes, RenderLine as BaseLine, text as base-text, border as base-border, Cell as BaseCell, readBorder as base-readBorder, readLine as base-readLine, counted as base-counted, readHeaded as base-readHeaded, readSheet as base-readSheet, readCellContent as base-readCellContent, readCell as base-readCell, readCells as base-readCells, readableLine as base-readableLine, readableLines as base-readableLines, readableCell as base-readableCell, content as base-content, letter as base-letter, linesBytes as base-linesBytes, sheetBytes as base-sheetBytes}
+use Rattle.fields.specs.Sheet.{Piece, readPiece, isSegment, upTo16, readPrefixes}
+use Rattle.base.specs.Sheet.{RenderLine as BaseLine, text as base-text, border as base-border, Cell as BaseCell, readBorder as base-readBorder, readLine as base-readLine, counted as base-counted, readHeaded as base-readHeaded, readSheet as base-readSheet, readCellContent as base-readCellContent, readCell as base-readCell, readCells as base-readCells, readableLine as base-readableLine, readableLines as base-readableLines, readableCell as base-readableCell, content as base-content, letter as base-letter, linesBytes as base-linesBytes, sheetBytes as base-sheetBytes}
 use Rattle.fields.specs.Answer.{Verdict, refused, inStore, give}
 use Rattle.fields.proofs.Back.{Every}
 use Rattle.borders.specs.BorderSegHoriz.{Horiz, HorizVert}

@@ -9,7 +9,8 @@ use lib.ListN.{length, replicate}
 use Rattle.characters.specs.If.{if_then_else_}
 use Rattle.fields.specs.Field.{all}
 use Rattle.fields.specs.Text.{readableText}
-use Rattle.fields.specs.Sheet.{RenderLine, Cell, readSheet, readCells, readPrefixes, readableLines, readableCell, content, sheetBytes}
+use Rattle.fields.specs.Sheet.{readPrefixes}
+use Rattle.base.specs.Sheet.{RenderLine, Cell, readSheet, readCells, readableLines, readableCell, content, sheetBytes}
 use Rattle.fields.specs.Answer.{Answer, inStore}
 use Rattle.base.specs.SubRenderer.{append-subrender, append-columns-with-borders, noBorderAbove, append-vert-row}
 use Rattle.rows.specs.declared.RenderOptions.{RenderOptions}

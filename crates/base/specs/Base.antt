@@ -6,7 +6,7 @@ use Prim.Native.Nat.{ℕ}
 use lib.Dec.{eqb}
 use lib.ListN.{drop}
 use Rattle.fields.specs.Field.{Raw, whole, broken, raws, all}
-use Rattle.fields.specs.Sheet.{RenderLine as BaseLine, text as base-text, border as base-border, Cell as BaseCell}
+use Rattle.base.specs.Sheet.{RenderLine as BaseLine, text as base-text, border as base-border, Cell as BaseCell}
 use Rattle.fields.specs.Answer.{Verdict, refused, sheet}
 use Rattle.fields.specs.Spans.{RenderLine, text, border, Sheet, sheetOf, Cell, cell}
 use Rattle.base.specs.Answer.{Verdict as BaseVerdict, refused as base-refused, sheet as base-sheet}

@@ -1,3 +1,4 @@
+pub mod Sheet
 pub mod SubRenderer
 pub mod Answer
 pub mod Base

@@ -7,7 +7,8 @@ use mathlib.Core.List.{List, [], _∷_, _++_, map}
 use Prim.Native.Nat.{ℕ, zero, suc, _+_, _-_}
 use lib.ListN.{length, replicate}
 use Rattle.characters.specs.If.{if_then_else_}
-use Rattle.fields.specs.Sheet.{Piece, RenderLine, text, border, Cell}
+use Rattle.fields.specs.Sheet.{Piece}
+use Rattle.base.specs.Sheet.{RenderLine, text, border, Cell}
 use Rattle.borders.specs.BorderSegHoriz.{Horiz, HorizVert}
 use Rattle.borders.specs.BorderHoriz.{new-type, stretch-to, join-above, join-below, merge-from-below, merge-from-above, to-vertical-lines-above, to-string}
 use Rattle.fields.specs.TaggedLine.{push-str, consume, pad-to}

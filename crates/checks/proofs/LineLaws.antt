@@ -12,8 +12,8 @@ use borrow.Author.Tests.{le-leb, lt-leb, ne-eqb}
 use Rattle.characters.specs.If.{if_then_else_}
 use Rattle.fields.specs.Field.{whole, broken, raws, readAll, all}
 use Rattle.fields.specs.First.{firstOf, firstOver, refusalOf, unless}
-use Rattle.fields.specs.Sheet.{readPiece, isSegment, border as base-border, readLine as baseLine, readableLine as base-readable}
-use Rattle.fields.specs.Walk.{pieceRefusal, lineRefusal as baseRefusal}
+use Rattle.fields.specs.Sheet.{readPiece}
+use Rattle.fields.specs.Walk.{pieceRefusal}
 use Rattle.fields.proofs.First.{first-zero, one-first}
 use Rattle.fields.proofs.Sheets.{pieces-all, mapped, two-after}
 use Rattle.fields.proofs.Texts.{rest}
@@ -31,15 +31,9 @@ pub text-line : (l : ℕ) (s : List ℕ) → l ≡ 0x4C → firstOver pieceRefus
 unfolding lineRefusal readLine
 text-line l s e = pieces-all (raws s) ∙ rw e (mapped (λ x. unless (readableLine x)) text (readAll readPiece (raws s)))
 
--- a border without holes is document 01's
-pub border-line : (l : ℕ) (s : List ℕ) → l ≡ 0x42 → baseRefusal (whole 0x42 s) ≡ lineRefusal (whole l s)
-unfolding baseRefusal baseLine lineRefusal readLine all
-border-line l [] e = rw e
-border-line l (a ∷ s) e = rw e (go (all isSegment s))
-  where
-    go : (b : Bool) → refusalOf (λ x. unless (base-readable x)) (if b then some (base-border a s) else none) ≡ refusalOf (λ x. unless (readableLine x)) (if b then some (border a s []) else none)
-    go true = refl
-    go false = refl
+-- a border without holes
+pub border-line : (l : ℕ) (s : List ℕ) → l ≡ 0x42 → lineRefusal (whole 0x42 s) ≡ lineRefusal (whole l s)
+border-line l s e = ap (λ (x : ℕ). lineRefusal (whole x s)) (sym e)
 
 -- another letter
 pub no-line : (l : ℕ) (s : List ℕ) → (l ≡ 0x4C → ⊥) → (l ≡ 0x42 → ⊥) → (l ≡ 0x47 → ⊥) → 1 ≡ lineRefusal (whole l s)

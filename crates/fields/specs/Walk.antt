@@ -7,7 +7,7 @@ use Rattle.fields.specs.Field.{Raw}
 use Rattle.fields.specs.Text.{readableText}
 use Rattle.fields.specs.First.{refusalOf, unless}
 use Rattle.fields.specs.Job.{readField, isWrong, readable}
-use Rattle.fields.specs.Sheet.{readPiece, readLine, readPrefix, readablePiece, readableLine}
+use Rattle.fields.specs.Sheet.{readPiece, readPrefix, readablePiece}
 use Rattle.fields.specs.Spans.{readName}
 use Rattle.fields.specs.declared.walk.Kind.{Kind}
 use Rattle.fields.specs.declared.walk.Kind.the-variants.{Job, Pieces, Prefixes, Names}
@@ -19,10 +19,6 @@ fieldRefusal r = if isWrong (readField r) then 1 else unless (readable (readFiel
 -- 1 or 3 of a piece
 unfoldable pub pieceRefusal : Raw → ℕ
 pieceRefusal r = refusalOf (λ p. unless (readablePiece p)) (readPiece r)
-
--- 1 or 3 of a line of document 01
-unfoldable pub lineRefusal : Raw → ℕ
-lineRefusal r = refusalOf (λ l. unless (readableLine l)) (readLine r)
 
 -- 1 or 3 of a prefix
 unfoldable pub prefixRefusal : Raw → ℕ

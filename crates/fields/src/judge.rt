@@ -2,7 +2,8 @@
 ghost use mathlib.Core.Path.{_≡_};
 ghost use Rattle.fields.specs.Field.{whole, all};
 ghost use Rattle.fields.specs.Sheet.{isSegment};
-ghost use Rattle.fields.specs.Walk.{fieldRefusal, pieceRefusal, lineRefusal, prefixRefusal, nameRefusal};
+ghost use Rattle.fields.specs.SpanRefusals.{lineRefusal};
+ghost use Rattle.fields.specs.Walk.{fieldRefusal, pieceRefusal, prefixRefusal, nameRefusal};
 use crate::text::text_refusal;
 
 // A T field has a mode, at most 2, two annotations and text; an F field is a name.
