@@ -1,4 +1,4 @@
--- The encoding of flat lines: what is put together, runs, pieces, and a line's bytes.
+-- The encoding of flat lines: what is put together, runs, pieces, a line's bytes, and those of names alone.
 -- Assumes nothing.
 use mathlib.Core.Path.{_≡_, refl, sym, ap, _∙_}
 use mathlib.Core.Bool.{Bool, true, false, _&&_, cond, and-false}
@@ -16,10 +16,10 @@ use Rattle.characters.proofs.RoundTrip.{Scalars}
 use Rattle.fields.specs.Field.{field}
 use Rattle.fields.specs.Job.{Mode, normal, pre, preWrap}
 use Rattle.fields.specs.Sheet.{piecesBytes}
-use Rattle.fields.specs.Spans.{letter, linesBytes}
+use Rattle.fields.specs.Spans.{letter, linesBytes, namesBytes}
 use Rattle.fields.specs.Spans as sheet
 use Rattle.block.specs.Tag.{Tag, sameTag, sameMode}
-use Rattle.block.specs.Flat.{char, name, Line, spaces, Run, run, mark, join, runs, runPiece, sheetLine}
+use Rattle.block.specs.Flat.{char, name, Line, hasText, spaces, namesIn, Run, run, mark, join, runs, runPiece, sheetLine}
 use Rattle.lines.specs.Items.{Item, item, markTag, nameTag, byteOf, tagOf}
 use Rattle.lines.specs.Encode.{joins, onFirst, startsWith, pieces, fieldOf, pieceField, pieceFields, content, lineField, runT}
 use Rattle.lines.specs.Bridge.{modeNo, num, tagged, enc, Valid, text, Cut}
@@ -343,10 +343,26 @@ fields-same (run t cs ∷ ps) (h, k, g) =
     let u = text-some cs k in
     rw (u .is, run-field t (u .first) (u .more) h, fields-same ps g)
 
+-- what a valid line's items hold are the bytes of its pieces
+content-bytes : (l : Line) → Valid l → content (enc l) ≡ piecesBytes (map runPiece (runs l))
+unfolding content
+content-bytes l v = ap pieceFields (pieces-same l v) ∙ fields-same (runs l) (runs-good l v)
+
 -- The field of a valid line's items is the L field of the sheet's line.
 pub line-bytes : (l : Line) → Valid l → lineField (enc l) ≡ field (letter (sheetLine l)) (sheet.content (sheetLine l))
-unfolding lineField content sheetLine
-line-bytes l v = ap (field 0x4C) (ap pieceFields (pieces-same l v) ∙ fields-same (runs l) (runs-good l v))
+unfolding lineField sheetLine
+line-bytes l v = ap (field 0x4C) (content-bytes l v)
+
+-- the pieces of a line without text are its names
+names-alone : (l : Line) → hasText l ≡ false → piecesBytes (map runPiece (runs l)) ≡ namesBytes (namesIn l)
+unfolding hasText runs piecesBytes namesIn namesBytes
+names-alone [] e = refl
+names-alone (name n ∷ l) e = ap (λ (bs : List ℕ). field 0x46 n ++ bs) (names-alone l e)
+names-alone (char c t ∷ l) e = absurd (clash refl e)
+
+-- What the items of a line without text hold are the F fields of its names.
+pub names-bytes : (l : Line) → Valid l → hasText l ≡ false → content (enc l) ≡ namesBytes (namesIn l)
+names-bytes l v e = content-bytes l v ∙ names-alone l e
 
 -- A line more is its field more.
 pub lines-snoc : (ls : List Line) (l : Line) → Valid l → linesBytes (map sheetLine (ls ++ (l ∷ []))) ≡ linesBytes (map sheetLine ls) ++ lineField (enc l)

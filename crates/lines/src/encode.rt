@@ -1,6 +1,7 @@
 // A line of the sheet from its entries: the L field with an S field for each run of one tag and an F field
-// for each name, written into the store. The Rust keeps those runs as it goes (`push` of `TaggedLine` joins
-// equal tags); here they are found when the line is closed.
+// for each name, written into the store; or those fields alone, as names stand that wait behind the lines.
+// The Rust keeps those runs as it goes (`push` of `TaggedLine` joins equal tags); here they are found when
+// the line is closed.
 use fields::store::put_byte;
 use fields::store::put_bytes;
 use fields::store::put_field;
@@ -62,8 +63,8 @@ fn put_piece(out: &mut [u8], at: usize, part: &[u8], tag: u32) -> usize
     put_bytes(out, text, part)
 }
 
-// The pieces of a line, one after the other.
-fn put_pieces(out: &mut [u8], at: usize, bytes: &[u8], tags: &[u32]) -> usize
+// The pieces of a line, or of a word, one after the other; where there is no text these are the F fields of its names.
+pub fn put_pieces(out: &mut [u8], at: usize, bytes: &[u8], tags: &[u32]) -> usize
     requires { ⌜ (length (now bytes) ≡ length (now tags)) × (length (now bytes) < 65535) × (at + 5 * length (now bytes) < 2 ^ 62) ⌝ }
     ensures { λ r. ⌜ r ≤ at + 5 * length (now (bytes .entry)) ⌝ }
     ensures { λ r. ⌜ Wrote (now (out .entry)) at (content (zip (now (bytes .entry)) (now (tags .entry)))) (now (out .exit)) r ⌝ }

@@ -8,7 +8,7 @@ use native.Mathlib.Omega.{arith}
 use lib.ListN.{length, take, drop, getD, length-map}
 use Rattle.fields.specs.Field.{raws}
 use Rattle.fields.specs.First.{refusalOf}
-use Rattle.fields.specs.Job.{JobField, readField, headOf, restOf, bodyUnits}
+use Rattle.fields.specs.Job.{JobField, readField, headOf, restOf, units, bodyUnits}
 use Rattle.fields.specs.Answer.{rendered, refused, give, Finishes}
 use Rattle.fields.specs.Refusals.{setupOf, fieldsOf, blockRefusal, jobRefusal}
 use Rattle.fields.specs.declared.job.Setup.{Setup}
@@ -17,19 +17,20 @@ use Rattle.fields.proofs.Fields.{raws-cons}
 use Rattle.fields.proofs.Jobs.{head-is}
 use Rattle.fields.proofs.Texts.{rest}
 use Rattle.block.specs.Answer.{renderAnswer}
-use Rattle.block.specs.Result.{Result}
-use Rattle.block.specs.Flat.{Line, wrapped, sheetLine}
+use Rattle.block.specs.Result.{Result, OnGood}
+use Rattle.block.specs.Flat.{Line, Ended, wrappedUp, sheetLine}
 use Rattle.block.proofs.Bounds.{few-lines}
 use Rattle.block.proofs.Equal.{answer-same}
+use Rattle.block.proofs.Lines.{on-ended}
 use Rattle.block.proofs.FlatAnswer.{flatJudged, flatVerdictOf, flatVerdict, flatAnswer, Passes, passes}
 use Rattle.hard_wrap.specs.declared.line.Frame.{Frame}
-use Rattle.hard_wrap.specs.declared.line.Open.{Open}
-use Rattle.render.specs.Render.{frameOf, FrameSmall, IntoLines}
+use Rattle.render.specs.Render.{frameOf, FrameSmall, WrapsUp}
+use Rattle.render.specs.declared.sheet.End.{End}
 use Rattle.render.specs.declared.sheet.Lines.the-variants.{Closed, Narrow}
 
 -- ---- a job that is refused
 
-judged-refused : (n : ℕ) (r : Result (List Line)) → (n ≡ 0 → ⊥) → flatJudged n r ≡ refused n
+judged-refused : (n : ℕ) (r : Result Ended) → (n ≡ 0 → ⊥) → flatJudged n r ≡ refused n
 unfolding flatJudged
 judged-refused zero r h = absurd (h refl)
 judged-refused (suc n) r h = refl
@@ -37,7 +38,7 @@ judged-refused (suc n) r h = refl
 verdict-refused : (o : Option Setup) (fs : List JobField) (n : ℕ) → n ≡ refusalOf (blockRefusal fs) o → (n ≡ 0 → ⊥) → flatVerdictOf o fs ≡ refused n
 unfolding flatVerdictOf
 verdict-refused none fs n e h = ap refused (sym e)
-verdict-refused (some s) fs n e h = rw (← e) (judged-refused n (wrapped s fs) h)
+verdict-refused (some s) fs n e h = rw (← e) (judged-refused n (wrappedUp s fs) h)
 
 -- A refusal 1 to 4 is the answer.
 pub answers-refused : (job store : List ℕ) (n : ℕ) → n ≡ jobRefusal job → (n ≡ 0 → ⊥) → give (refused n) store ≡ renderAnswer job store
@@ -85,24 +86,31 @@ module _ (job : List ℕ) (s : Setup) (g : Good job s) where
   frame-small frame e w a =
       rw e (record { positive = g .passed .some-width; small = w; default = a })
 
-  -- Its answer is that of its lines.
-  answer-lines : (store : List ℕ) → renderAnswer job store ≡ give (flatJudged 0 (wrapped s (map readField (raws (bodyOf job))))) store
+  -- Its answer is that of its block's end.
+  answer-ended : (store : List ℕ) → renderAnswer job store ≡ give (flatJudged 0 (wrappedUp s (map readField (raws (bodyOf job))))) store
   unfolding flatAnswer flatVerdict flatVerdictOf
-  answer-lines store = rw (answer-same job store, g .begins, g .none-of, g .fields)
+  answer-ended store = rw (answer-same job store, g .begins, g .none-of, g .fields)
 
-  -- The lines are in the store, and the head goes in front, or the store is too short.
-  pub answers-sheet : (frame : Frame) (o : Open) (r : Rendered) (store mid store′ : List ℕ) → frame ≡ frameOf s
-      → IntoLines frame (bodyOf job) store (Closed o) mid → Finishes (o .place) (o .lines) mid r store′ → rendered r store′ ≡ renderAnswer job store
+  -- Its lines are few.
+  few : OnGood (λ (e : Ended). length (e .lines) ≤ units (map readField (raws (bodyOf job)))) (wrappedUp s (map readField (raws (bodyOf job))))
+  few =
+      let fs = map readField (raws (bodyOf job)) in
+      on-ended (λ (ls : List Line). length ls ≤ units fs) s fs (few-lines s fs)
+
+  -- The lines are in the store and the names behind them, and the head goes in front, or the store is too short.
+  pub answers-sheet : (frame : Frame) (end : End) (r : Rendered) (store mid store′ : List ℕ) → frame ≡ frameOf s
+      → WrapsUp frame (bodyOf job) store (Closed end) mid → Finishes (end .place) (end .lines) mid r store′ → rendered r store′ ≡ renderAnswer job store
   unfolding flatJudged give
-  answers-sheet frame o r store mid store′ e into finish =
-      let x = rw e at into (g .passed .read) in
-      let few : length (x .ls) ≤ 4096 = omega (arith, rw (x .is) at (few-lines s (map readField (raws (bodyOf job)))), g .passed .light) in
-      rw (answer-lines store, x .is) (finish store (map sheetLine (x .ls)) (x .stands) (rw length-map (omega arith)))
+  answers-sheet frame end r store mid store′ e up finish =
+      let x = rw e at up (g .passed .read) in
+      let ls = x .ended .lines in
+      let short : length ls ≤ 4096 = omega (arith, rw (x .is) at few, g .passed .light) in
+      rw (answer-ended store, x .is) (finish store (map sheetLine ls) (x .ended .names) [] (x .stands) (rw length-map (omega arith)))
 
   -- A word is too wide for the block: refusal 5.
-  pub answers-narrow : (frame : Frame) (store mid : List ℕ) → frame ≡ frameOf s → IntoLines frame (bodyOf job) store Narrow mid
+  pub answers-narrow : (frame : Frame) (store mid : List ℕ) → frame ≡ frameOf s → WrapsUp frame (bodyOf job) store Narrow mid
       → length mid ≡ length store → give (refused 5) mid ≡ renderAnswer job store
   unfolding flatJudged give
-  answers-narrow frame store mid e into same =
-      let x = rw e at into (g .passed .read) in
-      rw (answer-lines store, x, same)
+  answers-narrow frame store mid e up same =
+      let x = rw e at up (g .passed .read) in
+      rw (answer-ended store, x, same)

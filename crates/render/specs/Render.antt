@@ -1,22 +1,22 @@
--- The steps of the call from a job to its sheet: a field, the fields, and the block's lines in the store.
+-- The steps of the call from a job to its sheet: a field, the fields, and the block's lines in the store with the names that wait.
 -- Assumes nothing: these are definitions.
 use mathlib.Core.Path.{_≡_}
 use mathlib.Core.Bool.{false, true}
-use mathlib.Core.List.{List, map}
-use Prim.Native.Nat.{ℕ, _^_, _<_}
+use mathlib.Core.List.{List, [], map}
+use Prim.Native.Nat.{ℕ, _<_}
 use Rattle.fields.specs.Field.{whole, raws}
 use Rattle.fields.specs.Job.{readField, readable, allReadable}
 use Rattle.fields.specs.Answer.{Stands}
 use Rattle.fields.specs.declared.job.Setup.{Setup}
 use Rattle.block.specs.Result.{Result, good, tooNarrow}
-use Rattle.block.specs.Flat.{Line, Block, intoLines, addField, addFields, wrapped, sheetLine}
+use Rattle.block.specs.Flat.{Block, Ended, flushWrapping, addField, addFields, wrappedUp, sheetLine}
 use Rattle.hard_wrap.specs.Hold.{setup}
 use Rattle.hard_wrap.specs.declared.line.Frame.{Frame}
-use Rattle.hard_wrap.specs.declared.line.Open.{Open}
 use Rattle.flush_word.specs.Keep.{noWord, noBlanks, Keeps, ResultIs}
 use Rattle.flush_word.specs.declared.state.State.{State}
 use Rattle.flush_word.specs.declared.state.Flushed.{Flushed}
 use Rattle.add_text.specs.declared.text.Run.{Run}
+use Rattle.render.specs.declared.sheet.End.{End}
 use Rattle.render.specs.declared.sheet.Lines.{Lines}
 use Rattle.render.specs.declared.sheet.Lines.the-variants.{Closed, Narrow}
 
@@ -52,26 +52,22 @@ pub record FrameSmall (frame : Frame) : Type 0 where
   pub small : frame .width < 256
   pub default : frame .«default_tag» < 256
 
-abbrev pub LinesSmall : Lines → Type 0
-LinesSmall (Closed o) = o .place < 2 ^ 61
-LinesSmall Narrow = Unit {0}
+-- what the end of a block is in the store
+pub record Closed-is (r : Result Ended) (d₀ : List ℕ) (e : End) (out : List ℕ) : Type 0 where
+  pub ended : Ended
+  pub is : r ≡ good ended
+  pub stands : Stands (map sheetLine (ended .lines)) (ended .names) [] d₀ (e .place) (e .lines) out
 
--- what a flat result is in the store
-pub record Closed-is (r : Result (List Line)) (d₀ : List ℕ) (o : Open) (out : List ℕ) : Type 0 where
-  pub ls : List Line
-  pub is : r ≡ good ls
-  pub stands : Stands (map sheetLine ls) d₀ (o .place) (o .lines) out
-
-abbrev pub LinesAre : Result (List Line) → List ℕ → Lines → List ℕ → Type 0
-LinesAre r d₀ (Closed o) out = Closed-is r d₀ o out
+abbrev pub LinesAre : Result Ended → List ℕ → Lines → List ℕ → Type 0
+LinesAre r d₀ (Closed e) out = Closed-is r d₀ e out
 LinesAre r d₀ Narrow out = r ≡ tooNarrow
 
--- `into_lines` of a block whose lines stand from 5 on
-abbrev pub FlushesAll : Frame → State → List ℕ → List ℕ → List ℕ → List ℕ → List ℕ → Lines → List ℕ → Type 0
-FlushesAll frame st lb lt wb wt out r out′ =
-    (d₀ : List ℕ) (b : Block) → Keeps d₀ 5 b st lb lt wb wt out → LinesAre (intoLines (setup frame) b) d₀ r out′
+-- `flush_wrapping` of a block whose lines stand from 5 on
+abbrev pub FlushesWrapping : Frame → State → List ℕ → List ℕ → List ℕ → List ℕ → List ℕ → Lines → List ℕ → Type 0
+FlushesWrapping frame st lb lt wb wt out r out′ =
+    (d₀ : List ℕ) (b : Block) → Keeps d₀ 5 b st lb lt wb wt out → LinesAre (flushWrapping (setup frame) b) d₀ r out′
 
--- the lines of a job's body, in the store from 5 on
-abbrev pub IntoLines : Frame → List ℕ → List ℕ → Lines → List ℕ → Type 0
-IntoLines frame body out r out′ =
-    allReadable (map readField (raws body)) ≡ true → LinesAre (wrapped (setup frame) (map readField (raws body))) out r out′
+-- the lines of a job's body, and the names that wait, in the store from 5 on
+abbrev pub WrapsUp : Frame → List ℕ → List ℕ → Lines → List ℕ → Type 0
+WrapsUp frame body out r out′ =
+    allReadable (map readField (raws body)) ≡ true → LinesAre (wrappedUp (setup frame) (map readField (raws body))) out r out′

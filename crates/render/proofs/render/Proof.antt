@@ -54,7 +54,7 @@ enum-known-lines : tie.Need-enum-known-lines
 enum-known-lines c = search needs
 
 finish-requires : tie.Need-finish-requires
-finish-requires c κs = rw (c .before .before .lines .given .1) at (c .before .before .before .before .before .before .wrap-lines .ensures .0)
+finish-requires c κs = search needs
 
 enum-told : tie.Need-enum-told
 enum-told c = search needs
@@ -73,15 +73,14 @@ same-length-2 c = search needs
 
 returns-2 : tie.Need-returns-2
 returns-2 c =
-    let w = c .before .before .before .before .before .before .before .before .before .wrap-lines in
-    answers-sheet _ _ (good (c .before .before .before .before .before .before .before .before .before .before .before .before .before)) _ _ (c .before .before .finish .result) _ _ _ (c .before .before .before .before .before .before .before .before .before .before .before .before .frame-of .ensures) (rw (c .before .before .before .before .before .lines .given .1) at (w .ensures .1)) (c .before .before .finish .ensures)
+    answers-sheet _ _ (good (c .before .before .before .before .before .before .before .before .before .before .before .before .before)) _ _ (c .before .before .finish .result) _ _ _ (c .before .before .before .before .before .before .before .before .before .before .before .before .frame-of .ensures) (rw (c .before .before .before .before .before .lines .given .1) at (c .before .before .before .before .before .before .before .before .before .wrap-lines .ensures)) (c .before .before .finish .ensures)
 
 same-length-3 : tie.Need-same-length-3
 same-length-3 c = search needs
 
 returns-3 : tie.Need-returns-3
 returns-3 c =
-    c .before .before .too-narrow .ensures ∙ answers-narrow _ _ (good (c .before .before .before .before .before .before .before .before .before .before .before .before)) _ _ _ (c .before .before .before .before .before .before .before .before .before .before .before .frame-of .ensures) (rw (c .before .before .before .before .enum-told .given .1) at (c .before .before .before .before .before .before .before .before .wrap-lines .ensures .1)) (c .before .before .before .before .before .before .before .store2 .given)
+    c .before .before .too-narrow .ensures ∙ answers-narrow _ _ (good (c .before .before .before .before .before .before .before .before .before .before .before .before)) _ _ _ (c .before .before .before .before .before .before .before .before .before .before .before .frame-of .ensures) (rw (c .before .before .before .before .enum-told .given .1) at (c .before .before .before .before .before .before .before .before .wrap-lines .ensures)) (c .before .before .before .before .before .before .before .store2 .given)
 
 same-length-4 : tie.Need-same-length-4
 same-length-4 c = search needs

@@ -1,12 +1,12 @@
--- `render::sheet::into_lines` meets its contract: all fields from the new block on, and then its end.
+-- `render::sheet::wrap_fields` meets its contract: all fields from the new block on, and then its end.
 -- Assumes nothing.
 use mathlib.Core.Path.{ap}
 use native.Mathlib.Omega.{arith}
 use borrow.Author.Needs.{needs}
 use Rattle.flush_word.specs.declared.state.State.{State}
-use Rattle.render.proofs.Finishing.{small-fresh, into-done, into-narrow}
-use Rattle.render.proofs.sheet.into_lines.Statement.{statement}
-use Rattle.render.proofs.sheet.into_lines.Tie as tie
+use Rattle.render.proofs.Finishing.{small-fresh, wraps-done, wraps-narrow}
+use Rattle.render.proofs.sheet.wrap_fields.Statement.{statement}
+use Rattle.render.proofs.sheet.wrap_fields.Tie as tie
 
 new-requires : tie.Need-new-requires
 new-requires c κs = search needs
@@ -20,8 +20,8 @@ add-fields-requires c κs =
 enum-known-f : tie.Need-enum-known-f
 enum-known-f c = search needs
 
-flush-requires : tie.Need-flush-requires
-flush-requires c κs =
+flush-wrapping-requires : tie.Need-flush-wrapping-requires
+flush-wrapping-requires c κs =
     let s = rw (c .before .before .before .before .before .before .f .given .1) at (c .before .before .before .before .before .before .before .before .before .before .before .before .before .before .before .before .before .before .add-fields .ensures .0) in
     (s .0, omega (arith, c .before .before .before .before .before .before .before .before .before .before .before .before .before .before .before .before .before .before .before .before .before .before .before .before .before .before .before .before .before .before .before .pre .0))
 
@@ -47,10 +47,8 @@ returns : tie.Need-returns
 returns c =
     let a = c .before .before .before .before .before .before .before .before .before .before .before .before .before .before .before .before .before .before .before .before .before .before .before .before .before .before .before .before .before .before .before .before .before .before .before .before .before .before .args in
     let d = c .before .before .before .before .before .before .before .before .before .before .before .before .before .f .given in
-    let end = c .before .before .before .before .before .before .flush in (
-      end .ensures .0,
-      into-done (a .frame) (a .body .now) _ _ _ _ _ _ (c .before .before .before .before .before .before .before .before .before .before .before .before .before .before .before .before .before .before .before .before .before .before .before .before .before .before .before .before .before .before .before .new .ensures) (d .0 .0) (end .result) _ (rw (d .1) at (c .before .before .before .before .before .before .before .before .before .before .before .before .before .before .before .before .before .before .before .before .before .before .before .before .before .add-fields .ensures .1)) (end .ensures .1),
-    )
+    let end = c .before .before .before .before .before .before .flush-wrapping in
+    wraps-done (a .frame) (a .body .now) _ _ _ _ _ _ (c .before .before .before .before .before .before .before .before .before .before .before .before .before .before .before .before .before .before .before .before .before .before .before .before .before .before .before .before .before .before .before .new .ensures) (d .0 .0) (end .result) _ (rw (d .1) at (c .before .before .before .before .before .before .before .before .before .before .before .before .before .before .before .before .before .before .before .before .before .before .before .before .before .add-fields .ensures .1)) (end .ensures)
 
 same-length-6 : tie.Need-same-length-6
 same-length-6 c = search needs
@@ -69,19 +67,17 @@ same-length-10 c = search needs
 
 returns-2 : tie.Need-returns-2
 returns-2 c =
-    let a = c .before .before .before .before .before .before .before .before .before .before .before .before .before .before .before .before .before .before .before .before .before .before .before .before .before .args in (
-      tt,
-      into-narrow (a .frame) (a .body .now) _ _ _ _ _ _ (c .before .before .before .before .before .before .before .before .before .before .before .before .before .before .before .before .before .before .new .ensures) (rw (c .enum-told .given .1) at (c .before .before .before .before .before .before .before .before .before .before .before .before .add-fields .ensures .1)),
-    )
+    let a = c .before .before .before .before .before .before .before .before .before .before .before .before .before .before .before .before .before .before .before .before .before .before .before .before .before .args in
+    wraps-narrow (a .frame) (a .body .now) _ _ _ _ _ _ (c .before .before .before .before .before .before .before .before .before .before .before .before .before .before .before .before .before .before .new .ensures) (rw (c .enum-told .given .1) at (c .before .before .before .before .before .before .before .before .before .before .before .before .add-fields .ensures .1))
 
-pub into-lines-spec : {M : Type 1} → statement M
-into-lines-spec =
+pub wrap-fields-spec : {M : Type 1} → statement M
+wrap-fields-spec =
     tie.close
     (tie.spec
     new-requires
     add-fields-requires
     enum-known-f
-    flush-requires
+    flush-wrapping-requires
     enum-told
     same-length
     same-length-2
