@@ -52,16 +52,17 @@ unfoldable pub columnsFrom : RenderOptions → ℕ → List Piece → List Colum
 columnsFrom s k l [] = l
 columnsFrom s k l (c ∷ cs) = columnsFrom s (suc k) (addColumn s (opened s k l) c (c .lines)) cs
 
--- the kept columns are on a line: all of them, and they stand one line further; or so many that the line is too long
-pub record KeptLine (out : List ℕ) (s : RenderOptions) (cells sheet ends widths tos : List ℕ) (hungs : List Bool) (collapse : Bool) (n : ℕ) (out′ ats′ : List ℕ) (r : Line) (cs : List Column) : Type 0 where
+-- the kept columns are on a line that held l₀: all of them, and they stand one line further; or so many that the line is too long
+pub record KeptLine (st : List ℕ) (l₀ : List Piece) (s : RenderOptions) (cells sheet ends widths tos : List ℕ) (hungs : List Bool) (collapse : Bool) (n : ℕ) (out′ ats′ : List ℕ) (r : Line) (cs : List Column) : Type 0 where
   pub pieces : List Piece
-  pub held : Held out pieces out′ r
-  pub grows : (ds : List Column) → length (piecesBytes pieces) ≤ length (piecesBytes (columnLine s [] (cs ++ ds)))
-  pub whole : isLong r ≡ false → (ds : List Column) → columnsFrom s n pieces ds ≡ columnLine s [] (cs ++ ds)
+  pub held : Held st pieces out′ r
+  pub grows : (ds : List Column) → length (piecesBytes pieces) ≤ length (piecesBytes (columnLine s l₀ (cs ++ ds)))
+  pub whole : isLong r ≡ false → (ds : List Column) → columnsFrom s n pieces ds ≡ columnLine s l₀ (cs ++ ds)
   pub moved : isLong r ≡ false → ColumnsAt cells sheet ats′ ends widths tos hungs collapse n (map nextColumn cs)
 
 -- `lay_kept`
-abbrev pub LaysKept : List ℕ → RenderOptions → List ℕ → List ℕ → List ℕ → List ℕ → List ℕ → List ℕ → List Bool → Bool → ℕ → List ℕ → List ℕ → Line → Type 0
-LaysKept out s cells sheet ats ends widths tos hungs collapse n out′ ats′ r =
-    (cs : List Column) → ColumnsAt cells sheet ats ends widths tos hungs collapse n cs → (total : ℕ) → lineMisfit total cs ≡ false
-    → KeptLine out s cells sheet ends widths tos hungs collapse n out′ ats′ r cs
+abbrev pub LaysKept : List ℕ → Line → RenderOptions → List ℕ → List ℕ → List ℕ → List ℕ → List ℕ → List ℕ → List Bool → Bool → ℕ → List ℕ → List ℕ → Line → Type 0
+LaysKept out p s cells sheet ats ends widths tos hungs collapse n out′ ats′ r =
+    (st : List ℕ) (l₀ : List Piece) → Held st l₀ out p
+    → (cs : List Column) → ColumnsAt cells sheet ats ends widths tos hungs collapse n cs → (total : ℕ) → lineMisfit total cs ≡ false
+    → KeptLine st l₀ s cells sheet ends widths tos hungs collapse n out′ ats′ r cs

@@ -6,7 +6,6 @@ use bodies::walk::past_top;
 use extend_lines::line::Lines;
 use rows::RenderOptions;
 use tagged_line::line::Line;
-use tagged_line::line::new_line;
 ghost use Prim.Native.Nat.{_≤_};
 ghost use lib.ListN.{length};
 ghost use Rattle.extend_lines.specs.Emitted.{InBounds, LineBegun};
@@ -47,10 +46,11 @@ pub fn start_seats(
     }
 }
 
-// The kept seats on a new line, up to where it is too long; each that is passed stands one line further.
+// The kept seats on a line that is begun, up to where it is too long; each that is passed stands one line further.
 pub fn lay_kept(
     out: &mut [u8],
     lines: Lines,
+    begun: Line,
     options: RenderOptions,
     cells: &[u8],
     sheet: &[u8],
@@ -62,22 +62,22 @@ pub fn lay_kept(
     collapse: bool,
     n: usize,
 ) -> Line
-    requires { ⌜ InBounds lines × (n ≤ length (now at)) × (n ≤ 16) × Narrow (now width) (now to) n ⌝ }
+    requires { ⌜ InBounds lines × LineBegun lines begun 65538 × (n ≤ length (now at)) × (n ≤ 16) × Narrow (now width) (now to) n ⌝ }
     ensures { λ r. ⌜ LineBegun lines r 2100000 ⌝ }
-    ensures { λ r. ⌜ LaysKept (now (out .entry)) options (now (cells .entry)) (now (sheet .entry))
+    ensures { λ r. ⌜ LaysKept (now (out .entry)) begun options (now (cells .entry)) (now (sheet .entry))
         (now (at .entry)) (now (end .entry)) (now (width .entry)) (now (to .entry)) (now (hung .entry))
         collapse n (now (out .exit)) (now (at .exit)) r ⌝ }
 {
-    let mut line = new_line(lines.at);
+    let mut line = begun;
     let mut k: usize = 0;
     while k < n {
         if is_long(line) {
             return line;
         }
-        let begun = open_seat(out, line, options, k);
+        let edged = open_seat(out, line, options, k);
         let a = add_kept(
             out,
-            begun,
+            edged,
             options,
             cells,
             sheet,
