@@ -1,29 +1,25 @@
 -- A line of the row only grows: what is pushed onto it is never shorter, so a line that is too long stays so.
 -- Assumes nothing.
-use mathlib.Core.Path.{_≡_, refl, ap}
-use mathlib.Core.Bool.{Bool, true, false, _||_}
+use mathlib.Core.Path.{_≡_, refl}
+use mathlib.Core.Bool.{Bool, true, false}
 use mathlib.Core.Option.{Option, none, some, Option·map}
-use mathlib.Core.List.{List, [], _∷_, _++_}
-use Prim.Native.Nat.{ℕ, zero, suc, _+_, _-_, _*_, _≤_, _<_}
+use mathlib.Core.List.{List, [], _∷_}
+use Prim.Native.Nat.{ℕ, zero, suc, _-_, _*_, _≤_, _<_}
 use native.Mathlib.Omega.{arith}
-use lib.Dec.{ltb, eqb}
-use lib.ListN.{length, replicate, length-append}
-use borrow.Author.Tests.{lt-leb, ltb-true, ltb-false}
+use lib.Dec.{ltb}
+use lib.ListN.{length, replicate}
+use borrow.Author.Tests.{ltb-true, ltb-false}
 use Rattle.characters.specs.Utf8.{Place, fresh, inside, Step, bad, on, ends, stepByte, follow, atEnd, charsFrom, chars}
 use Rattle.characters.specs.Columns.{cols, str-width}
-use Rattle.characters.proofs.Tests.{by-if}
 use Rattle.characters.proofs.Tables.{cols-le-two}
-use Rattle.fields.specs.Field.{field}
-use Rattle.fields.specs.Sheet.{Piece, str, fragment, pieceBytes, piecesBytes}
+use Rattle.fields.specs.Sheet.{Piece, str, fragment}
 use Rattle.fields.specs.Widths.{widthOr, text-width, width}
 use Rattle.rows.specs.declared.RenderOptions.{RenderOptions}
-use Rattle.fields.specs.TaggedLine.{onto, join, push-str, push, consume, push-ws, pad-to}
-use Rattle.rows.specs.SubRenderer.{edge, padded}
-use Rattle.tagged_line.proofs.Holding.{pieces-append}
+use Rattle.fields.specs.TaggedLine.{consume}
+use Rattle.rows.specs.SubRenderer.{edge}
 use Rattle.fields.specs.Spans.{RenderLine, text, border}
-use Rattle.rows.specs.Answer.{fits}
 use Rattle.rows.specs.Columns.{Column, addColumn}
-use Rattle.extend_lines.proofs.Growing.{or-first, or-second, sizeOf, size-cons, size-str, size-none, grow-str, grow-push, grow-consume}
+use Rattle.extend_lines.proofs.Growing.{or-first, or-second, sizeOf, size-cons, size-str, grow-str, grow-consume}
 use Rattle.row_lines.specs.Seat.{opened}
 use Rattle.tagged_line.specs.Held.{Held}
 use Rattle.tagged_line.specs.declared.line.Line.{Line}

@@ -25,7 +25,7 @@ use Rattle.slots.specs.declared.seat.Next.the-variants.{Is, NoMore}
 use Rattle.seats.specs.Keep.{slotAt}
 use Rattle.tagged_line.specs.Held.{Within, LineGrown, Held}
 use Rattle.tagged_line.specs.declared.line.Line.{Line}
-use Rattle.extend_lines.specs.Emitted.{InBounds, LineBegun}
+use Rattle.extend_lines.specs.Emitted.{LineBegun}
 use Rattle.extend_lines.specs.declared.line.Lines.{Lines}
 use Rattle.row_lines.specs.Seat.{seatMost, LeftAt, AddsSeat, opened, OpensSeat}
 use Rattle.row_lines.specs.Row.{isLong, columnsFrom}
@@ -35,7 +35,7 @@ use Rattle.row_lines.specs.Rest.{columnDown, MarkedIn, AddsMarked, AddsF
 use Rattle.row_lines.specs.declared.seat.Added.{Added}
 use Rattle.extend_lines.proofs.Growing.{or-first, or-second, sizeOf}
 use Rattle.row_lines.proofs.Growing.{grow-columns, short-line}
-use Rattle.row_lines.proofs.RowLaws.{columns-later, startOf}
+use Rattle.row_lines.proofs.RowLaws.{columns-later}
 
 -- ---- one seat
 
@@ -270,16 +270,6 @@ laid-inside cells sheet seat e i = subst (λ (b : Bool). seat .end ≤ length (s
 
 pub part-short : (at end : ℕ) (s : List ℕ) → end ≤ length s → end ≤ at + 65535 → length (part at end s) < 65536
 part-short at end s h near = omega (arith, part-length at end s h)
-
--- The line as it is begun.
-pub start-begun : (p : Lines) (line : Line) → LineBegun p line 2100000 → LineBegun (startOf line) line 2100000
-start-begun p line b = record { base = omega (arith, b .base); on = b .on; piece = b .piece; at = omega (arith, b .base, b .at); cols = b .cols }
-
-pub rest-begun : (p : Lines) (line₀ line : Line) → LineBegun p line₀ 2100000 → LineBegun (startOf line₀) line 2100000 → LineBegun p line 2100000
-rest-begun p line₀ line b w = record { base = omega (arith, b .base, w .base); on = w .on; piece = w .piece; at = omega (arith, b .base, w .at); cols = w .cols }
-
-pub start-below : (p : Lines) (line : Line) → LineBegun p line 2100000 → InBounds p → startOf line .at < 2 ^ 61
-start-below p line b i = omega (arith, b .base, i .at, i .count)
 
 -- ---- the marks at the first lines
 

@@ -11,19 +11,20 @@ use lib.ListN.{length, drop, getD, set, length-set, length-map, length-append, L
 use lib.Seq.{getD-set-same, getD-set-other, drop-cons}
 use Rattle.characters.proofs.Tests.{lt-or-le}
 use Rattle.fields.specs.Field.{all}
-use Rattle.fields.specs.Sheet.{Piece}
+use Rattle.fields.specs.Sheet.{Piece, fragment}
 use Rattle.rows.specs.declared.RenderOptions.{RenderOptions}
 use Rattle.fields.specs.TaggedLine.{push-str}
-use Rattle.rows.specs.SubRenderer.{edge}
-use Rattle.fields.specs.Spans.{RenderLine, text}
+use Rattle.rows.specs.SubRenderer.{edge, withNames}
+use Rattle.rows.specs.Named.{namedLines}
+use Rattle.fields.specs.Spans.{RenderLine, text, border}
 use Rattle.rows.specs.Answer.{fits}
 use Rattle.rows.specs.Columns.{slot, Column, column, cellMisfit, addColumn, columnLine, nextColumn, lineMisfit, linesMisfit, columnLines}
+use Rattle.rows.proofs.Front.{named-row}
 use Rattle.slots.specs.Seats.{source}
 use Rattle.tagged_line.specs.Held.{Within, LineGrown, newLine, Held}
 use Rattle.tagged_line.specs.declared.line.Line.{Line}
 use Rattle.extend_lines.specs.Emitted.{InBounds, LineBegun, Emitted}
 use Rattle.extend_lines.specs.declared.line.Lines.{Lines}
-use Rattle.extend_lines.proofs.Emitting.{held-new}
 use Rattle.row_lines.specs.Seat.{seatMost, AddedIn, LeftAt, AddsKept, opened, OpensSeat}
 use Rattle.row_lines.specs.Row.{columnAt, ColumnsAt, isLong, columnsFrom, LaysKept}
 use Rattle.row_lines.specs.declared.seat.Added.{Added}
@@ -59,17 +60,17 @@ next-at : (cs : List Column) (k : ℕ) → columnAt (map nextColumn cs) k ≡ ne
 unfolding nextColumn
 next-at cs k = List·getD-map nextColumn cs k (column (slot 0 0 0 1 []) [] none)
 
--- the seats of a row, and the store, the lines and the places before its next line
-module _ (out₀ : List ℕ) (p : Lines) (s : RenderOptions) (cells sheet ats₀ ends widths tos : List ℕ) (hungs : List Bool) (collapse : Bool) (n : ℕ) where
+-- the seats of a row, and the store, the line that is begun and the places before its next line
+module _ (out₀ : List ℕ) (p : Lines) (line₀ : Line) (s : RenderOptions) (cells sheet ats₀ ends widths tos : List ℕ) (hungs : List Bool) (collapse : Bool) (n : ℕ) where
   -- a column whose lines left stand from a place on
   abbrev pub KeptLeft : ℕ → ℕ → Column → Type 0
   KeptLeft k at c = LeftAt (source cells sheet (getD hungs k false)) at (getD ends k 0) (getD widths k 0) (getD tos k 0) collapse c
 
   -- the first k columns are on the line, and stand one line further
-  pub record LaidTo (out ats : List ℕ) (line : Line) (k : ℕ) (cs : List Column) : Type 0 where
+  pub record LaidTo (out ats : List ℕ) (line : Line) (k : ℕ) (st : List ℕ) (l₀ : List Piece) (cs : List Column) : Type 0 where
     pub pieces : List Piece
-    pub held : Held out₀ pieces out line
-    pub goes : (ds : List Column) → columnsFrom s k pieces (drop k cs ++ ds) ≡ columnLine s [] (cs ++ ds)
+    pub held : Held st pieces out line
+    pub goes : (ds : List Column) → columnsFrom s k pieces (drop k cs ++ ds) ≡ columnLine s l₀ (cs ++ ds)
     pub moved : (j : ℕ) → j < k → KeptLeft j (getD ats j 0) (nextColumn (columnAt cs j))
 
   -- with the numbers
@@ -79,22 +80,21 @@ module _ (out₀ : List ℕ) (p : Lines) (s : RenderOptions) (cells sheet ats₀
     pub same : length ats ≡ length ats₀
     pub begun : LineBegun p line 2100000
     pub ahead : (j : ℕ) → k ≤ j → getD ats j 0 ≡ getD ats₀ j 0
-    pub left : (cs : List Column) → ColumnsAt cells sheet ats₀ ends widths tos hungs collapse n cs → (total : ℕ) → lineMisfit total cs ≡ false
-        → LaidTo out ats line k cs
+    pub left : (st : List ℕ) (l₀ : List Piece) → Held st l₀ out₀ line₀ → (cs : List Column) → ColumnsAt cells sheet ats₀ ends widths tos hungs collapse n cs
+        → (total : ℕ) → lineMisfit total cs ≡ false → LaidTo out ats line k st l₀ cs
 
   -- None at first.
-  pub kept-start : (line : Line) → line ≡ newLine (p .at) → KeptLaid out₀ ats₀ line 0
-  kept-start line e =
-      rw e
-      (record {
+  pub kept-start : LineBegun p line₀ 2100000 → KeptLaid out₀ ats₀ line₀ 0
+  kept-start b =
+      record {
         few = omega arith;
         size = refl;
         same = refl;
-        begun = record { base = refl; on = omega arith; piece = omega arith; at = omega arith; cols = omega arith };
+        begun = b;
         ahead = λ j h. refl;
-        left = λ cs c total fine.
-            record { pieces = []; held = held-new out₀ (p .at); goes = λ ds. columns-line s [] (cs ++ ds); moved = λ j h. absurd (omega arith) };
-      })
+        left = λ st l₀ held cs c total fine.
+            record { pieces = l₀; held = held; goes = λ ds. columns-line s l₀ (cs ++ ds); moved = λ j h. absurd (omega arith) };
+      }
 
   module _ (out ats : List ℕ) (line : Line) (k : ℕ) (w : KeptLaid out ats line k) where
     -- Room for an edge.
@@ -137,8 +137,8 @@ module _ (out₀ : List ℕ) (p : Lines) (s : RenderOptions) (cells sheet ats₀
                 cols = omega (arith, a .grown .cols, g .cols, short-line line short .0);
               };
           ahead = λ j x. kept j (λ e. omega arith) ∙ w .ahead j (omega arith);
-          left = λ cs c total fine.
-              let t = w .left cs c total fine in
+          left = λ st l₀ on cs c total fine.
+              let t = w .left st l₀ on cs c total fine in
               let d = columnAt cs k in
               let at-first : KeptLeft k (getD ats k 0) d = subst (λ (z : ℕ). KeptLeft k z d) (sym (w .ahead k (omega arith))) (c .each k h) in
               let x = f d at-first in
@@ -146,7 +146,7 @@ module _ (out₀ : List ℕ) (p : Lines) (s : RenderOptions) (cells sheet ats₀
               let split : drop k cs ≡ d ∷ drop (suc k) cs = drop-cons cs k (column (slot 0 0 0 1 []) [] none) (omega (arith, c .count)) in
               record {
                 pieces = addColumn s (opened s k (t .pieces)) d (d .lines);
-                held = x .held total (misfit-at total cs k fine (omega (arith, c .count))) out₀ (opened s k (t .pieces)) (o out₀ (t .pieces) (t .held));
+                held = x .held total (misfit-at total cs k fine (omega (arith, c .count))) st (opened s k (t .pieces)) (o st (t .pieces) (t .held));
                 goes = λ ds.
                     rw one (sym (ap (λ (z : List Column). columnsFrom s k (t .pieces) (z ++ ds)) split) ∙ t .goes ds);
                 moved = λ j y.
@@ -165,32 +165,33 @@ module _ (out₀ : List ℕ) (p : Lines) (s : RenderOptions) (cells sheet ats₀
         kept : (j : ℕ) → (j ≡ k → ⊥) → getD (set ats k (r .next)) j 0 ≡ getD ats j 0
         kept j d = getD-set-other ats k j (r .next) 0 d
 
-    kept-grows : (cs : List Column) (t : LaidTo out ats line k cs) (ds : List Column) → sizeOf (t .pieces) ≤ sizeOf (columnLine s [] (cs ++ ds))
-    kept-grows cs t ds = omega (arith, grow-columns s k (t .pieces) (drop k cs ++ ds), ap sizeOf (t .goes ds))
+    kept-grows : (st : List ℕ) (l₀ : List Piece) (cs : List Column) (t : LaidTo out ats line k st l₀ cs) (ds : List Column)
+        → sizeOf (t .pieces) ≤ sizeOf (columnLine s l₀ (cs ++ ds))
+    kept-grows st l₀ cs t ds = omega (arith, grow-columns s k (t .pieces) (drop k cs ++ ds), ap sizeOf (t .goes ds))
 
     -- The line is too long.
-    pub kept-long : isLong line ≡ true → LaysKept out₀ s cells sheet ats₀ ends widths tos hungs collapse n out ats line
-    kept-long e cs c total fine =
-        let t = w .left cs c total fine in
+    pub kept-long : isLong line ≡ true → LaysKept out₀ line₀ s cells sheet ats₀ ends widths tos hungs collapse n out ats line
+    kept-long e st l₀ on cs c total fine =
+        let t = w .left st l₀ on cs c total fine in
         record {
           pieces = t .pieces;
           held = t .held;
-          grows = kept-grows cs t;
+          grows = kept-grows st l₀ cs t;
           whole = λ x. absurd (let z : _≡_ {A = ℕ} 0 1 = cc in omega arith);
           moved = λ x. absurd (let z : _≡_ {A = ℕ} 0 1 = cc in omega arith);
         }
 
     -- All seats.
-    pub kept-end : n ≤ k → LaysKept out₀ s cells sheet ats₀ ends widths tos hungs collapse n out ats line
-    kept-end h cs c total fine =
-        let t = w .left cs c total fine in
+    pub kept-end : n ≤ k → LaysKept out₀ line₀ s cells sheet ats₀ ends widths tos hungs collapse n out ats line
+    kept-end h st l₀ on cs c total fine =
+        let t = w .left st l₀ on cs c total fine in
         let e : k ≡ n = omega (arith, w .few) in
         let no-more : drop k cs ≡ [] = drop-of-length-le cs {i = k} (omega (arith, c .count)) in
         record {
           pieces = t .pieces;
           held = t .held;
-          grows = kept-grows cs t;
-          whole = λ x ds. subst (λ (i : ℕ). columnsFrom s i (t .pieces) ds ≡ columnLine s [] (cs ++ ds)) e
+          grows = kept-grows st l₀ cs t;
+          whole = λ x ds. subst (λ (i : ℕ). columnsFrom s i (t .pieces) ds ≡ columnLine s l₀ (cs ++ ds)) e
               (sym (ap (λ (z : List Column). columnsFrom s k (t .pieces) (z ++ ds)) no-more) ∙ t .goes ds);
           moved = λ x.
               record {
@@ -212,13 +213,21 @@ start-new p l e = e ∙ ap newLine (sym (start-at p l e))
 pub start-low : (p : Lines) (l : Line) → l ≡ newLine (p .at) → InBounds p → startOf l .at < 2 ^ 61
 start-low p l e b = omega (arith, start-at p l e, b .at, b .count)
 
--- A line that is begun there.
-pub begun-from : (p : Lines) (l line : Line) → l ≡ newLine (p .at) → LineBegun (startOf l) line 2100000 → LineBegun p line 2100000
-begun-from p l line e b =
-    record { base = omega (arith, start-at p l e, b .base); on = b .on; piece = b .piece; at = omega (arith, start-at p l e, b .at); cols = b .cols }
+-- A line that is begun stands behind its own place.
+pub start-begun : (p : Lines) (line : Line) → LineBegun p line 2100000 → LineBegun (startOf line) line 2100000
+start-begun p line b = record { base = omega (arith, b .base); on = b .on; piece = b .piece; at = omega (arith, b .base, b .at); cols = b .cols }
 
-pub begun-more : (p : Lines) (line : Line) → LineBegun p line 2100000 → LineBegun p line 8000000
-begun-more p line b = record { base = b .base; on = b .on; piece = b .piece; at = omega (arith, b .at); cols = omega (arith, b .cols) }
+-- What stands behind that place stands behind the lines.
+pub begun-from : (p : Lines) (line₀ line : Line) → LineBegun p line₀ 2100000 → LineBegun (startOf line₀) line 2100000 → LineBegun p line 2100000
+begun-from p line₀ line b w =
+    record { base = omega (arith, b .base, w .base); on = w .on; piece = w .piece; at = omega (arith, b .base, w .at); cols = w .cols }
+
+pub start-below : (p : Lines) (line : Line) → LineBegun p line 2100000 → InBounds p → startOf line .at < 2 ^ 61
+start-below p line b i = omega (arith, b .base, i .at, i .count)
+
+-- A line of some bytes and columns at most has no more than a greater number.
+pub begun-more : (p : Lines) (line : Line) (m n : ℕ) → m ≤ n → LineBegun p line m → LineBegun p line n
+begun-more p line m n h b = record { base = b .base; on = b .on; piece = b .piece; at = omega (arith, b .at); cols = omega (arith, b .cols) }
 
 pub or-true : (a : Bool) → (a || true) ≡ true
 or-true true = refl
@@ -231,9 +240,23 @@ unfolding columnLines
 lines-count s zero cs = refl
 lines-count s (suc m) cs = ap suc (lines-count s m (map nextColumn cs))
 
-pub lines-first : (s : RenderOptions) (m : ℕ) (cs : List Column) → columnLines s (suc m) cs ≡ text (columnLine s [] cs) ∷ columnLines s m (map nextColumn cs)
-unfolding columnLines
-lines-first s m cs = refl
+-- Names do not change their number.
+pub named-count : (ns : List (List ℕ)) (ls : List RenderLine) → length (namedLines ns ls) ≡ length ls
+unfolding namedLines
+named-count ns [] = refl
+named-count ns (text ps ∷ ls) = refl
+named-count ns (border a segs hs ∷ ls) = ap suc (named-count ns ls)
+
+-- The first line takes the names, and the others come behind it.
+pub lines-first : (s : RenderOptions) (ns : List (List ℕ)) (m : ℕ) (cs : List Column)
+    → namedLines ns (columnLines s (suc m) cs) ≡ withNames ns (text (columnLine s [] cs)) ∷ columnLines s m (map nextColumn cs)
+unfolding columnLines namedLines
+lines-first s ns m cs = refl
+
+-- It is laid from the names on.
+pub line-named : (s : RenderOptions) (ns : List (List ℕ)) (cs : List Column) → withNames ns (text (columnLine s [] cs)) ≡ text (columnLine s (map fragment ns) cs)
+line-named s [] cs = refl
+line-named s (n ∷ ns) cs = ap text (named-row s (n ∷ ns) cs)
 
 pub misfit-first : (total m : ℕ) (cs : List Column) → linesMisfit total (suc m) cs ≡ false → (lineMisfit total cs ≡ false) × (linesMisfit total m (map nextColumn cs) ≡ false)
 unfolding linesMisfit
@@ -249,8 +272,8 @@ unfit-more [] ms e = absurd (let z : _≡_ {A = ℕ} 0 1 = cc in omega arith)
 unfit-more (l ∷ ls) ms e = both-unfit (fits l) (all fits ls) (all fits (ls ++ ms)) (λ x. unfit-more ls ms x) e
 
 -- Behind a line that is too long the others only count.
-pub long-more : (st : List ℕ) (ls ms : List RenderLine) (out : List ℕ) (q r : Lines) → Emitted st ls [] out q → q .long ≡ true → r .long ≡ true → r .count ≡ q .count + length ms
-    → Emitted st (ls ++ ms) [] out r
+pub long-more : (st : List ℕ) (ls ms : List RenderLine) (out : List ℕ) (q r : Lines) → Emitted st ls [] [] out q → q .long ≡ true → r .long ≡ true → r .count ≡ q .count + length ms
+    → Emitted st (ls ++ ms) [] [] out r
 unfolding all
 long-more st ls ms out q r e long rlong count =
     record {

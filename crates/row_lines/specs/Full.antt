@@ -26,7 +26,8 @@ use Rattle.row_lines.specs.Mark.{AllMarked}
 use Rattle.row_lines.specs.Rest.{columnsDown}
 
 -- the columns of the kept seats, whose lines left stand from the places on, and the seats ahead with their marks, i lines down
-pub record RowAt (cells sheet ats ends widths tos : List ℕ) (hungs : List Bool) (collapse : Bool) (n : ℕ) (more : Bool) (rest : Slots) (i : ℕ) (marks : List ℕ) (cs : List Column) (xs : List Slot) : Type 0 where
+pub record RowAt (cells sheet ats ends widths tos : List ℕ) (hungs : List Bool) (collapse : Bool) (n : ℕ) (more : Bool) (rest : Slots) (i : ℕ)
+    (marks : List ℕ) (cs : List Column) (xs : List Slot) : Type 0 where
   pub kept : ColumnsAt cells sheet ats ends widths tos hungs collapse n cs
   pub total : ℕ
   pub ahead : more ≡ true → SlotsLeft cells sheet rest xs total
@@ -38,7 +39,8 @@ abbrev pub allColumns : Bool → ℕ → List Column → List Slot → List Colu
 allColumns collapse i cs xs = cs ++ columnsDown collapse i xs
 
 -- the columns are on a line that held l₀: all of them, and they stand one line further; or so many that the line is too long
-pub record FullLine (st : List ℕ) (l₀ : List Piece) (s : RenderOptions) (cells sheet ends widths tos : List ℕ) (hungs : List Bool) (collapse : Bool) (n : ℕ) (more : Bool) (rest : Slots) (i : ℕ) (out′ ats′ marks′ : List ℕ) (r : Line) (cs : List Column) (xs : List Slot) : Type 0 where
+pub record FullLine (st : List ℕ) (l₀ : List Piece) (s : RenderOptions) (cells sheet ends widths tos : List ℕ) (hungs : List Bool) (collapse : Bool) (n : ℕ)
+    (more : Bool) (rest : Slots) (i : ℕ) (out′ ats′ marks′ : List ℕ) (r : Line) (cs : List Column) (xs : List Slot) : Type 0 where
   pub pieces : List Piece
   pub held : Held st pieces out′ r
   pub grows : length (piecesBytes pieces) ≤ length (piecesBytes (columnLine s l₀ (allColumns collapse i cs xs)))
@@ -46,7 +48,8 @@ pub record FullLine (st : List ℕ) (l₀ : List Piece) (s : RenderOptions) (cel
   pub moved : isLong r ≡ false → RowAt cells sheet ats′ ends widths tos hungs collapse n more rest (suc i) marks′ (map nextColumn cs) xs
 
 -- `lay_full`
-abbrev pub LaysFull : List ℕ → Line → RenderOptions → List ℕ → List ℕ → List ℕ → List ℕ → List ℕ → List ℕ → List Bool → Bool → ℕ → Bool → Slots → ℕ → List ℕ → List ℕ → List ℕ → List ℕ → Line → Type 0
+abbrev pub LaysFull : List ℕ → Line → RenderOptions → List ℕ → List ℕ → List ℕ → List ℕ → List ℕ → List ℕ → List Bool → Bool → ℕ → Bool → Slots → ℕ → List ℕ → List ℕ
+    → List ℕ → List ℕ → Line → Type 0
 LaysFull out p s cells sheet ats ends widths tos hungs collapse n more rest i marks out′ ats′ marks′ r =
     (st : List ℕ) (l₀ : List Piece) → Held st l₀ out p
     → (cs : List Column) (xs : List Slot) → RowAt cells sheet ats ends widths tos hungs collapse n more rest i marks cs xs
@@ -54,12 +57,14 @@ LaysFull out p s cells sheet ats ends widths tos hungs collapse n more rest i ma
     → FullLine st l₀ s cells sheet ends widths tos hungs collapse n more rest i out′ ats′ marks′ r cs xs
 
 -- a line more, with names in front, and, unless a line is too long, the columns one line further
-pub record FullAdded (ns : List (List ℕ)) (s : RenderOptions) (cells sheet ends widths tos : List ℕ) (hungs : List Bool) (collapse : Bool) (n : ℕ) (more : Bool) (rest : Slots) (i : ℕ) (out′ ats′ marks′ : List ℕ) (r : Lines) (cs : List Column) (xs : List Slot) (st : List ℕ) (ls : List RenderLine) : Type 0 where
+pub record FullAdded (ns : List (List ℕ)) (s : RenderOptions) (cells sheet ends widths tos : List ℕ) (hungs : List Bool) (collapse : Bool) (n : ℕ)
+    (more : Bool) (rest : Slots) (i : ℕ) (out′ ats′ marks′ : List ℕ) (r : Lines) (cs : List Column) (xs : List Slot) (st : List ℕ) (ls : List RenderLine) : Type 0 where
   pub emitted : Emitted st (ls ++ (padded s (withNames ns (text (columnLine s [] (allColumns collapse i cs xs)))) ∷ [])) [] [] out′ r
   pub moved : r .long ≡ false → RowAt cells sheet ats′ ends widths tos hungs collapse n more rest (suc i) marks′ (map nextColumn cs) xs
 
 -- `add_full_line`
-abbrev pub AddsFullLine : List ℕ → Lines → List ℕ → RenderOptions → List ℕ → List ℕ → List ℕ → List ℕ → List ℕ → List ℕ → List Bool → Bool → ℕ → Bool → Slots → ℕ → List ℕ → List ℕ → List ℕ → List ℕ → Lines → Type 0
+abbrev pub AddsFullLine : List ℕ → Lines → List ℕ → RenderOptions → List ℕ → List ℕ → List ℕ → List ℕ → List ℕ → List ℕ → List Bool → Bool → ℕ → Bool → Slots → ℕ
+    → List ℕ → List ℕ → List ℕ → List ℕ → Lines → Type 0
 AddsFullLine out p names s cells sheet ats ends widths tos hungs collapse n more rest i marks out′ ats′ marks′ r =
     (ns : List (List ℕ)) → readAll readName (raws names) ≡ some ns
     → (cs : List Column) (xs : List Slot) → RowAt cells sheet ats ends widths tos hungs collapse n more rest i marks cs xs
@@ -67,7 +72,8 @@ AddsFullLine out p names s cells sheet ats ends widths tos hungs collapse n more
     → FullAdded ns s cells sheet ends widths tos hungs collapse n more rest i out′ ats′ marks′ r cs xs st ls
 
 -- `add_full_lines`
-abbrev pub AddsFull : List ℕ → Lines → List ℕ → RenderOptions → List ℕ → List ℕ → List ℕ → List ℕ → List ℕ → List ℕ → List Bool → Bool → ℕ → Bool → Slots → List ℕ → ℕ → List ℕ → Lines → Type 0
+abbrev pub AddsFull : List ℕ → Lines → List ℕ → RenderOptions → List ℕ → List ℕ → List ℕ → List ℕ → List ℕ → List ℕ → List Bool → Bool → ℕ → Bool → Slots → List ℕ → ℕ
+    → List ℕ → Lines → Type 0
 AddsFull out p names s cells sheet ats ends widths tos hungs collapse n more rest marks height out′ r =
     (ns : List (List ℕ)) → readAll readName (raws names) ≡ some ns
     → (cs : List Column) (xs : List Slot) → RowAt cells sheet ats ends widths tos hungs collapse n more rest 0 marks cs xs

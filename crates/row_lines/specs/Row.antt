@@ -53,7 +53,8 @@ columnsFrom s k l [] = l
 columnsFrom s k l (c ∷ cs) = columnsFrom s (suc k) (addColumn s (opened s k l) c (c .lines)) cs
 
 -- the kept columns are on a line that held l₀: all of them, and they stand one line further; or so many that the line is too long
-pub record KeptLine (st : List ℕ) (l₀ : List Piece) (s : RenderOptions) (cells sheet ends widths tos : List ℕ) (hungs : List Bool) (collapse : Bool) (n : ℕ) (out′ ats′ : List ℕ) (r : Line) (cs : List Column) : Type 0 where
+pub record KeptLine (st : List ℕ) (l₀ : List Piece) (s : RenderOptions) (cells sheet ends widths tos : List ℕ) (hungs : List Bool) (collapse : Bool) (n : ℕ)
+    (out′ ats′ : List ℕ) (r : Line) (cs : List Column) : Type 0 where
   pub pieces : List Piece
   pub held : Held st pieces out′ r
   pub grows : (ds : List Column) → length (piecesBytes pieces) ≤ length (piecesBytes (columnLine s l₀ (cs ++ ds)))

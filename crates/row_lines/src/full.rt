@@ -41,7 +41,7 @@ fn lay_full(
     i: usize,
     marks: &mut [u8],
 ) -> Line
-    requires { ⌜ InBounds lines × LineBegun lines begun 65538 × (n ≤ length (now at)) × (n ≤ 16) × Narrow (now width) (now to) n
+    requires { ⌜ InBounds lines × LineBegun lines begun 2100000 × (n ≤ length (now at)) × (n ≤ 16) × Narrow (now width) (now to) n
         × SlotsIn (now cells) (now sheet) rest ⌝ }
     ensures { λ r. ⌜ LineBegun lines r 2100000 ⌝ }
     ensures { λ r. ⌜ LaysFull (now (out .entry)) begun options (now (cells .entry)) (now (sheet .entry))

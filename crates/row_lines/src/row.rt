@@ -62,7 +62,7 @@ pub fn lay_kept(
     collapse: bool,
     n: usize,
 ) -> Line
-    requires { ⌜ InBounds lines × LineBegun lines begun 65538 × (n ≤ length (now at)) × (n ≤ 16) × Narrow (now width) (now to) n ⌝ }
+    requires { ⌜ InBounds lines × LineBegun lines begun 2100000 × (n ≤ length (now at)) × (n ≤ 16) × Narrow (now width) (now to) n ⌝ }
     ensures { λ r. ⌜ LineBegun lines r 2100000 ⌝ }
     ensures { λ r. ⌜ LaysKept (now (out .entry)) begun options (now (cells .entry)) (now (sheet .entry))
         (now (at .entry)) (now (end .entry)) (now (width .entry)) (now (to .entry)) (now (hung .entry))

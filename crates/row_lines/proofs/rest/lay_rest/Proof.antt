@@ -1,7 +1,7 @@
 -- `rest::lay_rest` meets its contract: the seats that were passed are on the line, and their marks stand one line further. Assumes nothing.
 use mathlib.Core.Path.{sym, subst, _∙_}
-use Rattle.row_lines.proofs.RestLaws.{RestLaid, rest-start, rest-edge, rest-room, rest-long, rest-end, rest-on, start-begun, rest-begun, start-below}
-use Rattle.row_lines.proofs.RowLaws.{startOf}
+use Rattle.row_lines.proofs.RestLaws.{RestLaid, rest-start, rest-edge, rest-room, rest-long, rest-end, rest-on}
+use Rattle.row_lines.proofs.RowLaws.{startOf, start-begun, begun-from, start-below}
 use Rattle.slots.specs.Seats.{slotsMeasure, NextIn, FindsNext}
 use borrow.Author.Needs.{needs}
 use Rattle.row_lines.proofs.rest.lay_rest.Statement.{statement}
@@ -26,7 +26,7 @@ same-length-2 : tie.Need-same-length-2 Inv-loop μ-loop
 same-length-2 c = search needs
 
 returns : tie.Need-returns Inv-loop μ-loop
-returns c = (rest-begun (c .before .before .before .before .before .before .before .args .lines) _ _ (c .before .before .before .before .before .before .before .pre .1) (c .before .before .loop .inv .begun), rest-long _ _ _ (c .before .before .before .before .before .before .before .args .options) _ _ _ (c .before .before .before .before .before .before .before .args .collapse) _ (c .before .before .before .before .before .before .before .args .i) _ _ _ _ _ _ _ (c .before .before .loop .inv) (sym (c .before .is-long .ensures) ∙ c .if1 .taken))
+returns c = (begun-from (c .before .before .before .before .before .before .before .args .lines) _ _ (c .before .before .before .before .before .before .before .pre .1) (c .before .before .loop .inv .begun), rest-long _ _ _ (c .before .before .before .before .before .before .before .args .options) _ _ _ (c .before .before .before .before .before .before .before .args .collapse) _ (c .before .before .before .before .before .before .before .args .i) _ _ _ _ _ _ _ (c .before .before .loop .inv) (sym (c .before .is-long .ensures) ∙ c .if1 .taken))
 
 next-slot-requires : tie.Need-next-slot-requires Inv-loop μ-loop
 next-slot-requires c κs = c .before .before .loop .inv .slots-in
@@ -56,7 +56,7 @@ same-length-4 : tie.Need-same-length-4 Inv-loop μ-loop
 same-length-4 c = search needs
 
 returns-2 : tie.Need-returns-2 Inv-loop μ-loop
-returns-2 c = (rest-begun (c .before .before .before .before .before .before .before .before .before .before .args .lines) _ _ (c .before .before .before .before .before .before .before .before .before .before .pre .1) (c .before .before .before .before .before .loop .inv .begun), rest-end _ _ _ (c .before .before .before .before .before .before .before .before .before .before .args .options) _ _ _ (c .before .before .before .before .before .before .before .before .before .before .args .collapse) _ (c .before .before .before .before .before .before .before .before .before .before .args .i) _ _ _ _ _ _ _ (c .before .before .before .before .before .loop .inv) _ (subst (FindsNext _ _ _) (c .enum-told .given .1) (c .before .before .next-slot .ensures .1)))
+returns-2 c = (begun-from (c .before .before .before .before .before .before .before .before .before .before .args .lines) _ _ (c .before .before .before .before .before .before .before .before .before .before .pre .1) (c .before .before .before .before .before .loop .inv .begun), rest-end _ _ _ (c .before .before .before .before .before .before .before .before .before .before .args .options) _ _ _ (c .before .before .before .before .before .before .before .before .before .before .args .collapse) _ (c .before .before .before .before .before .before .before .before .before .before .args .i) _ _ _ _ _ _ _ (c .before .before .before .before .before .loop .inv) _ (subst (FindsNext _ _ _) (c .enum-told .given .1) (c .before .before .next-slot .ensures .1)))
 
 pub lay-rest-spec : {M : Type 1} → statement M
 lay-rest-spec =
