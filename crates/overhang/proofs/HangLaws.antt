@@ -17,7 +17,7 @@ use Rattle.fields.specs.Store.{Wrote}
 use Rattle.fields.proofs.Sets.{sets-append, sets-past, wrote-then, wrote-before}
 use Rattle.block.proofs.Bounds.{length-field}
 use Rattle.rows.specs.declared.RenderOptions.{RenderOptions}
-use Rattle.fields.specs.Spans.{RenderLine, Hanging, hanging, linesBytes, hangingContent, overhangBytes}
+use Rattle.fields.specs.Spans.{RenderLine, Hanging, hanging, linesBytes, namesBytes, hangingContent, overhangBytes, bodyBytes}
 use Rattle.rows.specs.SubRenderer.{filled}
 use Rattle.rows.specs.Answer.{fits, fitsHanging}
 use Rattle.rows.specs.Columns.{Slot, columnOf, columnHangs}
@@ -25,7 +25,7 @@ use Rattle.bodies.specs.Body.{FindsBody}
 use Rattle.bodies.specs.Walk.{SkipsTo}
 use Rattle.bodies.specs.declared.body.Body.{Body}
 use Rattle.bodies.proofs.BodyLaws.{column-readable, readable-drop}
-use Rattle.extend_lines.specs.Emitted.{Emitted, allFit, bodyBytes}
+use Rattle.extend_lines.specs.Emitted.{Emitted, allFit}
 use Rattle.extend_lines.specs.declared.line.Lines.{Lines}
 use Rattle.extend_lines.proofs.Emitting.{field-bytes}
 use Rattle.overhang.specs.Filled.{PutsLines}
@@ -95,19 +95,23 @@ overhang-more (w ∷ vs) v =
     ap (λ (bs : List ℕ). field 0x56 (hangingContent w) ++ bs) (overhang-more vs v)
     ∙ sym (append-assoc (field 0x56 (hangingContent w)) (overhangBytes vs) (field 0x56 (hangingContent v)))
 
-body-more : (ls : List RenderLine) (vs : List Hanging) (v : Hanging) → bodyBytes ls (vs ++ (v ∷ [])) ≡ bodyBytes ls vs ++ field 0x56 (hangingContent v)
-body-more ls vs v =
-    ap (λ (bs : List ℕ). linesBytes ls ++ bs) (overhang-more vs v) ∙ sym (append-assoc (linesBytes ls) (overhangBytes vs) (field 0x56 (hangingContent v)))
+body-more : (ls : List RenderLine) (ns : List (List ℕ)) (vs : List Hanging) (v : Hanging)
+    → bodyBytes ls ns (vs ++ (v ∷ [])) ≡ bodyBytes ls ns vs ++ field 0x56 (hangingContent v)
+body-more ls ns vs v =
+    let f = field 0x56 (hangingContent v) in
+    ap (λ (bs : List ℕ). linesBytes ls ++ (namesBytes ns ++ bs)) (overhang-more vs v)
+    ∙ ap (λ (bs : List ℕ). linesBytes ls ++ bs) (sym (append-assoc (namesBytes ns) (overhangBytes vs) f))
+    ∙ sym (append-assoc (linesBytes ls) (namesBytes ns ++ overhangBytes vs) f)
 
 not-and : (s t : Bool) → (not s || not t) ≡ not (s && t)
 not-and true t = refl
 not-and false t = refl
 
 -- A V field more hangs once it stands behind the others, or it is too long.
-pub one-hangs : (st out out′ : List ℕ) (ls : List RenderLine) (vs : List Hanging) (v : Hanging) (p r : Lines) → Emitted st ls vs out p
+pub one-hangs : (st out out′ : List ℕ) (ls : List RenderLine) (ns : List (List ℕ)) (vs : List Hanging) (v : Hanging) (p r : Lines) → Emitted st ls ns vs out p
     → length out′ ≡ length out → r .count ≡ p .count → r .long ≡ (p .long || not (fitsHanging v))
-    → (fitsHanging v ≡ true → Wrote out (p .at) (field 0x56 (hangingContent v)) out′ (r .at)) → Emitted st ls (vs ++ (v ∷ [])) out′ r
-one-hangs st out out′ ls vs v p r e size count long write =
+    → (fitsHanging v ≡ true → Wrote out (p .at) (field 0x56 (hangingContent v)) out′ (r .at)) → Emitted st ls ns (vs ++ (v ∷ [])) out′ r
+one-hangs st out out′ ls ns vs v p r e size count long write =
     let f = field 0x56 (hangingContent v) in
     record {
       size = size ∙ e .size;
@@ -116,14 +120,14 @@ one-hangs st out out′ ls vs v p r e size count long write =
       place = λ ok.
           let good = sym (fit-more ls vs v) ∙ ok in
           let w = write (and-right (allFit ls vs) (fitsHanging v) good) in
-          let n : length (bodyBytes ls (vs ++ (v ∷ []))) ≡ length (bodyBytes ls vs) + length f = ap length (body-more ls vs v) ∙ length-append (bodyBytes ls vs) f in
+          let n : length (bodyBytes ls ns (vs ++ (v ∷ []))) ≡ length (bodyBytes ls ns vs) + length f = ap length (body-more ls ns vs v) ∙ length-append (bodyBytes ls ns vs) f in
           let at = e .place (and-left (allFit ls vs) (fitsHanging v) good) in
           omega (arith, n, at, w .place);
       bytes = λ ok.
           let good = sym (fit-more ls vs v) ∙ ok in
           let w = write (and-right (allFit ls vs) (fitsHanging v) good) in
           let h = and-left (allFit ls vs) (fitsHanging v) good in
-          w .store ∙ rw (e .place h, e .bytes h, body-more ls vs v) (sym (sets-append st 5 (bodyBytes ls vs) f));
+          w .store ∙ rw (e .place h, e .bytes h, body-more ls ns vs v) (sym (sets-append st 5 (bodyBytes ls ns vs) f));
     }
 
 -- ---- a cell of the row
@@ -157,7 +161,7 @@ hangs-in : (out part′ out′ : List ℕ) (p r : Lines) (s : RenderOptions) (by
     → length part′ ≡ length (drop place out) → out′ ≡ take place out ++ part′ → r .count ≡ p .count → r .at ≡ p .at + 3 + n
     → ((p .long ≡ true) × (r .long ≡ p .long)) ⊎ ((p .long ≡ false) × (r .long ≡ ltb 65535 n))
     → HangsOn out p s bytes pos width span to at end collapse height out′ r
-hangs-in out part′ out′ p r s bytes pos width span to at end collapse height b from place n more low body skips e puts size is count past came x h st ls vs emitted =
+hangs-in out part′ out′ p r s bytes pos width span to at end collapse height b from place n more low body skips e puts size is count past came x h st ls ns vs emitted =
     let lines = columnOf collapse x .lines in
     let read = readable-drop (height + 1) lines (column-readable collapse x (h .readable)) in
     let stand = puts (drop (height + 1) lines) (skips lines (body x (h .lines-at) .lines-at)) read (h .narrow) (omega (arith, h .few)) in
@@ -168,7 +172,7 @@ hangs-in out part′ out′ p r s bytes pos width span to at end collapse height
     let fit : fitsHanging v ≡ leb n 65535 = fits-test (length (hangingContent v)) pos low ∙ ap (λ (k : ℕ). leb k 65535) (sym (stand .size)) in
     let are : columnHangs s height (columnOf collapse x) ≡ v ∷ [] =
     hangs-are s height collapse x (omega (arith, h .span-is, more)) ∙ by-numbers s (drop (height + 1) lines) (h .pos-is) (h .width-is) (h .span-is) (h .to-is) in
-    rw are (one-hangs st out out′ ls vs v p r emitted same count (rw fit (long-more (p .long) (r .long) n came))
+    rw are (one-hangs st out out′ ls ns vs v p r emitted same count (rw fit (long-more (p .long) (r .long) n came))
     (λ ok.
     let short : n ≤ 65535 = leb-true n 65535 (sym fit ∙ ok) in
     record {
@@ -201,7 +205,7 @@ none-hangs s n false x h = rw (le-ltb 1 (x .span) h)
 -- One that spans no further row.
 pub seat-none : (out : List ℕ) (p : Lines) (s : RenderOptions) (cells sheet : List ℕ) (seat : Seat) (collapse : Bool) (height : ℕ) → seat .span ≤ 1
     → HangsSeat out p s cells sheet seat collapse height out p
-seat-none out p s cells sheet seat collapse height h x is narrow st ls vs e =
+seat-none out p s cells sheet seat collapse height h x is narrow st ls ns vs e =
     rw (none-hangs s height collapse x (omega (arith, is .span-is, h)), append-nil vs) e
 
 -- One that does.
@@ -209,7 +213,7 @@ pub seat-hangs : (out out′ : List ℕ) (p r : Lines) (s : RenderOptions) (cell
     → SeatIn cells sheet seat → 1 < seat .span → bytes ≡ source cells sheet (seat .hung)
     → HangsOn out p s bytes (seat .pos) (seat .width) (seat .span) (seat .to) (seat .at) (seat .end) collapse height out′ r
     → HangsSeat out p s cells sheet seat collapse height out′ r
-seat-hangs out out′ p r s cells sheet seat collapse height bytes in-seat more from hangs x is narrow st ls vs e =
+seat-hangs out out′ p r s cells sheet seat collapse height bytes in-seat more from hangs x is narrow st ls ns vs e =
     let wide : x .width < 256 = narrow (omega (arith, is .span-is, more)) in
     hangs x (record {
       pos-is = is .pos-is;
@@ -220,4 +224,4 @@ seat-hangs out out′ p r s cells sheet seat collapse height bytes in-seat more 
       few = in-seat .rows;
       lines-at = rw from (is .lines-at);
       readable = is .readable;
-    }) st ls vs e
+    }) st ls ns vs e

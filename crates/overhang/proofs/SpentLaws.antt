@@ -296,9 +296,9 @@ module _ (s : RenderOptions) (height : ℕ) (collapse : Bool) where
   spent-cells pos [] = omega arith
   spent-cells pos (c ∷ cs) = omega (arith, spent-cell (slot pos (c .width) (c .width) (c .span) (c .lines)), spent-cells (pos + c .width + 1) cs)
 
-  -- The V fields of a row have no more bytes than the sheet, and 65,538 for each cell.
+  -- The V fields of a row have no more bytes than the sheet from its first V field on, and 65,538 for each cell.
   pub row-spent : (sheet : List ℕ) (from : ℕ) (cs : List Cell) (vs : List Hanging) → Bytes sheet → length cs ≤ 16 → HungFrom sheet from vs
-      → spentAll (rowSlots vs cs) ≤ length sheet + 1048608
+      → spentAll (rowSlots vs cs) ≤ length sheet - from + 1048608
   unfolding rowSlots
   row-spent sheet from cs vs k few h =
       omega (

@@ -1,4 +1,4 @@
-// The cells that hang on below a row, as V fields.
+// The cells that hang on below a row, as V fields behind the lines and the names that wait.
 use crate::line::put_lines;
 use bodies::body::body_of;
 use bodies::walk::skip_lines;
@@ -15,7 +15,6 @@ ghost use mathlib.Core.Path.{_≡_};
 ghost use Prim.Native.Nat.{_+_, _-_, _^_, _≤_, _<_, min};
 ghost use lib.ListN.{length};
 ghost use Rattle.overhang.specs.Hang.{PutsHanging, HangingIn, HangsOn, HangsSeat, HangsAll};
-ghost use Rattle.extend_lines.specs.Emitted.{InBounds};
 ghost use Rattle.slots.specs.Seats.{SeatIn};
 
 // A V field at the front of a store, with the lines between two places, filled: the length of its content.
@@ -50,7 +49,7 @@ fn smaller(a: usize, b: usize) -> usize
     if a <= b { a } else { b }
 }
 
-// What is left of a cell that hangs on, whose lines stand between two places: a V field behind the lines and those that hang already.
+// What is left of a cell that hangs on, whose lines stand between two places: a V field behind all that is written already.
 fn put_hanging(
     out: &mut [u8],
     lines: Lines,
@@ -152,7 +151,7 @@ pub fn hang_on(
     collapse: bool,
     height: usize,
 ) -> Lines
-    requires { ⌜ InBounds lines × (height < 2 ^ 63) ⌝ }
+    requires { ⌜ height < 2 ^ 63 ⌝ }
     ensures { λ r. ⌜ r .count ≡ lines .count ⌝ }
     ensures { λ r. ⌜ HangsAll (now (out .entry)) lines options (now (cells .entry)) (now (sheet .entry)) from collapse height (now (out .exit)) r ⌝ }
 {
