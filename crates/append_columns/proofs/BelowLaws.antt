@@ -87,8 +87,8 @@ cut-length b (h ∷ hs) e =
 -- ---- a line that is too long
 
 -- It is counted.
-pub counted : (st out mid : List ℕ) (ls : List RenderLine) (x : RenderLine) (p r : Lines) → Emitted st ls [] out p → length mid ≡ length out
-    → r .count ≡ p .count + 1 → r .long ≡ true → fits x ≡ false → Emitted st (ls ++ (x ∷ [])) [] mid r
+pub counted : (st out mid : List ℕ) (ls : List RenderLine) (x : RenderLine) (p r : Lines) → Emitted st ls [] [] out p → length mid ≡ length out
+    → r .count ≡ p .count + 1 → r .long ≡ true → fits x ≡ false → Emitted st (ls ++ (x ∷ [])) [] [] mid r
 counted st out mid ls x p r e size count long unfit =
     one-more st out mid ls x p r e size count (long ∙ sym (rw unfit (or-true (p .long)))) (λ y. absurd (clash y unfit))
 
@@ -146,7 +146,7 @@ holed-put out o₁ o₂ o₃ o₄ out′ p r a segs cells sheet first collapse h
     let c = holed-content a segs hs any in
     let f : field (letter x) (content x) ≡ head 0x47 (length (content x)) ++ bs =
     ap₂ field (c .1) (c .0) ∙ field-bytes 0x47 bs ∙ ap (λ (z : List ℕ). head 0x47 (length z) ++ bs) (sym (c .0)) in
-    subst (λ (z : List ℕ). Emitted st (ls ++ (border a z hs ∷ [])) [] out′ r) is
+    subst (λ (z : List ℕ). Emitted st (ls ++ (border a z hs ∷ [])) [] [] out′ r) is
     (one-more st out out′ ls x p r e (wrote-length w₄ ∙ size ∙ wrote-length w₃ ∙ wrote-length w₂ ∙ wrote-length w₁) more
     (long ∙ sym (rw ok (or-false (p .long)))) (λ _. rw f (wrote-before body (rw m at w₄))))
 
@@ -178,10 +178,10 @@ module _ (out mid : List ℕ) (p : Lines) (s : RenderOptions) (segs cells sheet 
       let is = t .whole short in
       let few : sizeOf (into-tagged-from a segs [] 0 hs) ≤ 65535 =
       omega (arith, ap sizeOf (from-start a segs hs), ap sizeOf is, t .held .place, short-line line short .1) in
-      let x : Emitted st (ls ++ (padded s (text (border-into-tagged-line a segs hs)) ∷ [])) [] out′ r =
-      subst (λ (z : List Piece). Emitted st (ls ++ (padded s (text z) ∷ [])) [] out′ r) is (adds st out ls (t .pieces) e size (t .held)) in
-      subst (λ (z : List ℕ). Emitted st (ls ++ (padded s (border a z hs) ∷ [])) [] out′ r) (same (seats-drawn s collapse height 0 xs a segs [] 0 few))
-      (subst (λ (z : RenderLine). Emitted st (ls ++ (z ∷ [])) [] out′ r) (sym (padded-text s a segs hs pad)) x)
+      let x : Emitted st (ls ++ (padded s (text (border-into-tagged-line a segs hs)) ∷ [])) [] [] out′ r =
+      subst (λ (z : List Piece). Emitted st (ls ++ (padded s (text z) ∷ [])) [] [] out′ r) is (adds st out ls (t .pieces) e size (t .held)) in
+      subst (λ (z : List ℕ). Emitted st (ls ++ (padded s (border a z hs) ∷ [])) [] [] out′ r) (same (seats-drawn s collapse height 0 xs a segs [] 0 few))
+      (subst (λ (z : RenderLine). Emitted st (ls ++ (z ∷ [])) [] [] out′ r) (sym (padded-text s a segs hs pad)) x)
 
   -- It is too long.
   pub drawn-counted : (r : Lines) → isLong line ≡ true → r .count ≡ p .count + 1 → r .long ≡ true → DrawsHoled out p s segs cells sheet first collapse height mid r
@@ -258,7 +258,7 @@ module _ (out : List ℕ) (p : Lines) (s : RenderOptions) (buffer : List ℕ) (n
     holed-field pad puts xs total left wide any b keeps within st ls e =
         let hs = holesBelow s collapse height xs in
         let same = cut-length b hs within in
-        subst (λ (z : RenderLine). Emitted st (ls ++ (z ∷ [])) [] out′ r) (sym (padded-none s (border (s .annotation) (cutAll b hs) hs) pad))
+        subst (λ (z : RenderLine). Emitted st (ls ++ (z ∷ [])) [] [] out′ r) (sym (padded-none s (border (s .annotation) (cutAll b hs) hs) pad))
         (puts s refl xs total left wide any (cutAll b hs) (λ j. is-cut xs total left wide b keeps within (seats-short s collapse height 0 xs j)) (ap (λ (m : ℕ). anyPast m hs) same ∙ within) st ls e)
 
 -- ---- the border below the row
@@ -280,20 +280,20 @@ module _ (out : List ℕ) (p : Lines) (s : RenderOptions) (cells sheet at end wi
   below-none off xs row st ls e =
       let hs = holesBelow s collapse height xs in
       let b = borderBelow joined total xs (map (columnOf collapse) xs) in
-      subst (λ (t : Bool). Emitted st (ls ++ map (padded s) (if t then border (s .annotation) (cutAll b hs) hs ∷ [] else [])) [] out p) (sym off)
-      (subst (λ (z : List RenderLine). Emitted st z [] out p) (sym (append-nil ls)) e)
+      subst (λ (t : Bool). Emitted st (ls ++ map (padded s) (if t then border (s .annotation) (cutAll b hs) hs ∷ [] else [])) [] [] out p) (sym off)
+      (subst (λ (z : List RenderLine). Emitted st z [] [] out p) (sym (append-nil ls)) e)
 
   module _ (buffer mid out′ : List ℕ) (n : ℕ) (r : Lines) (on : s .borders ≡ true) (room : length buffer ≤ 65536)
       (below : BordersBelow buffer total joined cells sheet at end width hung kept collapse mid n) where
     -- the one line is added
-    drawn : (st : List ℕ) (ls : List RenderLine) (x : RenderLine) → Emitted st (ls ++ (padded s x ∷ [])) [] out′ r → Emitted st (ls ++ map (padded s) (ifDrawn s x)) [] out′ r
-    drawn st ls x e = subst (λ (t : Bool). Emitted st (ls ++ map (padded s) (if t then x ∷ [] else [])) [] out′ r) (sym on) e
+    drawn : (st : List ℕ) (ls : List RenderLine) (x : RenderLine) → Emitted st (ls ++ (padded s x ∷ [])) [] [] out′ r → Emitted st (ls ++ map (padded s) (ifDrawn s x)) [] [] out′ r
+    drawn st ls x e = subst (λ (t : Bool). Emitted st (ls ++ map (padded s) (if t then x ∷ [] else [])) [] [] out′ r) (sym on) e
 
     -- a border without holes
-    plain : (st : List ℕ) (ls : List RenderLine) (b : List ℕ) (hs : List Hole) → hs ≡ [] → Emitted st (ls ++ (padded s (plainBorder (s .annotation) b) ∷ [])) [] out′ r
-        → Emitted st (ls ++ (padded s (border (s .annotation) (cutAll b hs) hs) ∷ [])) [] out′ r
+    plain : (st : List ℕ) (ls : List RenderLine) (b : List ℕ) (hs : List Hole) → hs ≡ [] → Emitted st (ls ++ (padded s (plainBorder (s .annotation) b) ∷ [])) [] [] out′ r
+        → Emitted st (ls ++ (padded s (border (s .annotation) (cutAll b hs) hs) ∷ [])) [] [] out′ r
     unfolding cutAll
-    plain st ls b hs none e = subst (λ (z : List Hole). Emitted st (ls ++ (padded s (border (s .annotation) (cutAll b z) z) ∷ [])) [] out′ r) (sym none) e
+    plain st ls b hs none e = subst (λ (z : List Hole). Emitted st (ls ++ (padded s (border (s .annotation) (cutAll b z) z) ∷ [])) [] [] out′ r) (sym none) e
 
     -- It has holes.
     pub below-holed : holes ≡ true → AddsHoled out p s mid n cells sheet first collapse height out′ r
@@ -310,7 +310,7 @@ module _ (out : List ℕ) (p : Lines) (s : RenderOptions) (cells sheet at end wi
         let is : take n mid ≡ b = keeps-fits mid n b (below room (row .to) (row .span) xs (row .full) (row .row)) few .0 in
         drawn st ls _
         (plain st ls b (holesBelow s collapse height xs) (no-hole (holesBelow s collapse height xs) (sym (row .holed) ∙ h))
-        (subst (λ (z : List ℕ). Emitted st (ls ++ (padded s (plainBorder (s .annotation) z) ∷ [])) [] out′ r) is (adds st ls e)))
+        (subst (λ (z : List ℕ). Emitted st (ls ++ (padded s (plainBorder (s .annotation) z) ∷ [])) [] [] out′ r) is (adds st ls e)))
 
     -- It has none, and is longer than the buffer.
     pub below-long : holes ≡ false → length mid ≡ 65536 → 65536 < n → length out′ ≡ length out → r .count ≡ p .count + 1 → r .long ≡ true

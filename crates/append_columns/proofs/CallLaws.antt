@@ -2,8 +2,7 @@
 -- Assumes nothing.
 use mathlib.Core.Path.{_≡_, refl, sym, ap, ap₂, _∙_}
 use mathlib.Core.Bool.{Bool, true, false, not, _&&_}
-use mathlib.Core.Option.{some}
-use mathlib.Core.List.{List, [], _∷_, _++_}
+use mathlib.Core.List.{List, [], _∷_}
 use Prim.Native.Nat.{ℕ, _+_, _≤_, _<_}
 use native.Mathlib.Omega.{arith}
 use lib.ListN.{length, length-append}
@@ -11,21 +10,22 @@ use Rattle.characters.specs.If.{if_then_else_}
 use Rattle.characters.proofs.Tests.{and-right}
 use Rattle.fields.specs.Field.{raws, part, all}
 use Rattle.fields.specs.First.{firstOf}
-use Rattle.fields.specs.Answer.{Answer, rendered, refused as base-refused, give as base-give}
+use Rattle.fields.specs.Answer.{Answer, Verdict, rendered, refused, give}
 use Rattle.fields.specs.declared.answer.Rendered.{Rendered}
 use Rattle.fields.proofs.Readings.{read-size}
-use Rattle.rows.specs.Answer.{widthRefusal, Verdict, refused, give, finished, orMisfit, sheetRefusal, columnsAnswer}
+use Rattle.rows.specs.Answer.{widthRefusal, finished, orMisfit, columnsAnswer}
 use Rattle.rows.specs.declared.RenderOptions.{RenderOptions}
-use Rattle.fields.specs.Spans.{RenderLine, Sheet, Cell, readLine, readCells, readableLines, readableHanging}
+use Rattle.fields.specs.Spans.{RenderLine, Sheet, Cell, readLine, readCells, readableLines, readableNames, readableHanging}
 use Rattle.fields.specs.Places.{LinesAt}
-use Rattle.fields.specs.SpanRefusals.{cellsRefusal}
+use Rattle.fields.specs.SpanRefusals.{sheetRefusal, cellsRefusal}
 use Rattle.rows.specs.SubRenderer.{endsInBorder}
 use Rattle.rows.specs.Columns.{rowSlots, anyTop, noneIf, columnsMisfit, flatColumns}
 use Rattle.rows.proofs.Columns.{columns-flat, six-flat}
 use Rattle.bodies.specs.Walk.{LastLine, none-there, last-there, LastIn, FindsLast}
-use Rattle.checks.specs.Split.{SheetAt, FindsHanging}
+use Rattle.checks.specs.Split.{SheetAt, FindsParts}
+use Rattle.checks.specs.declared.sheet.Parts.{Parts}
 use Rattle.checks.proofs.Passing.{SheetPasses, sheet-passes, CellsPass, cells-pass}
-use Rattle.checks.proofs.Verdicts.{columnsNumber, afterColumns, columns-refused, columns-goes, first-none, refusal-same}
+use Rattle.checks.proofs.Verdicts.{columnsNumber, afterColumns, columns-refused, columns-goes, first-none}
 use Rattle.append_columns.specs.Old.{EndsInBorder}
 use Rattle.append_columns.specs.Lay.{OldIn, InputsAre, Lays}
 use Rattle.append_columns.proofs.LayLaws.{judged}
@@ -62,10 +62,10 @@ after-flat s old cs collapse joined kind =
 
 -- A refusal of 1 to 3.
 pub call-refused : (n : ℕ) (a : Answer) (s : RenderOptions) (sheet cells : List ℕ) (collapse : Bool) (st : List ℕ) → n ≡ columnsNumber s sheet cells → (n ≡ 0 → ⊥)
-    → a ≡ base-give (base-refused n) st → a ≡ columnsAnswer s sheet cells collapse st
+    → a ≡ give (refused n) st → a ≡ columnsAnswer s sheet cells collapse st
 unfolding columnsAnswer
 call-refused n a s sheet cells collapse st e h is =
-    is ∙ refusal-same n st ∙ ap (λ (v : Verdict). give v st) (sym (columns-refused n s sheet cells collapse e h))
+    is ∙ ap (λ (v : Verdict). give v st) (sym (columns-refused n s sheet cells collapse e h))
 
 module _ (n : ℕ) (s : RenderOptions) (sheet cells : List ℕ) (is : n ≡ columnsNumber s sheet cells) (zero : n ≡ 0) where
   -- both inputs pass
@@ -80,44 +80,46 @@ module _ (n : ℕ) (s : RenderOptions) (sheet cells : List ℕ) (is : n ≡ colu
   cells-passes : CellsPass cells (readCells cells)
   cells-passes = cells-pass cells (none-of .1)
 
-  module _ (from last : ℕ) (joined : Bool) (hangs : FindsHanging sheet from) (low : LastIn sheet 5 from last) (finds : FindsLast sheet 5 from last)
-      (there : joined ≡ true → last < from) (kind : EndsInBorder sheet last from joined) where
+  module _ (at : Parts) (last : ℕ) (joined : Bool) (splits : FindsParts sheet at) (low : LastIn sheet 5 (at .names) last) (finds : FindsLast sheet 5 (at .names) last)
+      (there : joined ≡ true → last < at .names) (kind : EndsInBorder sheet last (at .names) joined) where
     -- where the old sheet's parts stand
-    parts : SheetAt sheet from (old-passes .sheet)
-    parts = hangs (old-passes .sheet) (old-passes .reads)
+    parts : SheetAt sheet at (old-passes .sheet)
+    parts = splits (old-passes .sheet) (old-passes .reads)
 
-    last-is : LastLine sheet 5 from last (old-passes .sheet .lines)
+    last-is : LastLine sheet 5 (at .names) last (old-passes .sheet .lines)
     last-is = finds (old-passes .sheet .lines) (parts .lines)
 
     -- The places that the row is laid with.
-    pub old-in : OldIn sheet from last joined
+    pub old-in : OldIn sheet (at .names) (at .hanging) last joined
     old-in =
         record {
           low = low .low (parts .lines .order);
           order = low .high;
-          inside = parts .lines .inside;
-          head = λ e. head-there sheet 5 from last (old-passes .sheet .lines) last-is (there e);
+          names = parts .names .order;
+          inside = parts .names .inside;
+          head = λ e. head-there sheet 5 (at .names) last (old-passes .sheet .lines) last-is (there e);
           near = low .near;
           few = parts .few;
-          fewer = fields-before sheet from last (old-passes .sheet .lines) (parts .lines) last-is (parts .few);
+          fewer = fields-before sheet (at .names) last (old-passes .sheet .lines) (parts .lines) last-is (parts .few);
         }
 
     -- the inputs that it is laid from
-    inputs-are : InputsAre sheet from last joined cells (old-passes .sheet) (cells-passes .cells)
+    inputs-are : InputsAre sheet (at .names) (at .hanging) last joined cells (old-passes .sheet) (cells-passes .cells)
     inputs-are =
         record {
           cells-are = cells-passes .there;
           few = cells-passes .few;
           cells-readable = cells-passes .readable;
           cells-wide = cells-passes .wide;
-          sheet-at = parts;
-          hung-readable = and-right (readableLines (old-passes .sheet .lines)) (all readableHanging (old-passes .sheet .overhang)) (old-passes .readable);
+          names-at = parts .names;
+          hung-at = parts .hung;
+          hung-readable = and-right (readableLines (old-passes .sheet .lines) && readableNames (old-passes .sheet .names)) (all readableHanging (old-passes .sheet .overhang)) (old-passes .readable);
           hung-wide = old-passes .wide;
           old-at = record { lines = parts .lines; there = last-is; kind = kind (old-passes .sheet .lines) (parts .lines) last-is };
         }
 
     -- The row's answer is the call's.
-    pub call-laid : (collapse : Bool) (done : Rendered) (st st′ : List ℕ) → Lays s sheet from last joined cells collapse st done st′
+    pub call-laid : (collapse : Bool) (done : Rendered) (st st′ : List ℕ) → Lays s sheet (at .names) (at .hanging) last joined cells collapse st done st′
         → rendered done st′ ≡ columnsAnswer s sheet cells collapse st
     unfolding columnsAnswer
     call-laid collapse done st st′ lays =

@@ -46,29 +46,29 @@ ends-in (r ∷ []) l = refl
 ends-in (r ∷ q ∷ ls) l = ends-in (q ∷ ls) l
 
 -- no line stands at a place behind the others
-none-last : (sheet : List ℕ) (last from : ℕ) (ls : List RenderLine) → from ≤ last → LastLine sheet 5 from last ls → false ≡ endsInBorder ls
+none-last : (sheet : List ℕ) (last stop : ℕ) (ls : List RenderLine) → stop ≤ last → LastLine sheet 5 stop last ls → false ≡ endsInBorder ls
 unfolding endsInBorder
-none-last sheet last from ls h (none-there x y) = ap endsInBorder (sym y)
-none-last sheet last from ls h (last-there k before l e b t r) = absurd (omega (arith, h, k))
+none-last sheet last stop ls h (none-there x y) = ap endsInBorder (sym y)
+none-last sheet last stop ls h (last-there k before l e b t r) = absurd (omega (arith, h, k))
 
 -- Where no line is before the end, none is a border.
-pub ends-none : (sheet : List ℕ) (last from : ℕ) → from ≤ last → EndsInBorder sheet last from false
-ends-none sheet last from h ls at there = none-last sheet last from ls h there
+pub ends-none : (sheet : List ℕ) (last stop : ℕ) → stop ≤ last → EndsInBorder sheet last stop false
+ends-none sheet last stop h ls at there = none-last sheet last stop ls h there
 
 -- The lines do not end behind the sheet.
-pub ends-outside : (sheet : List ℕ) (last from : ℕ) → last < from → length sheet ≤ last → EndsInBorder sheet last from false
-ends-outside sheet last from h k ls at there = absurd (omega (arith, h, k, at .inside))
+pub ends-outside : (sheet : List ℕ) (last stop : ℕ) → last < stop → length sheet ≤ last → EndsInBorder sheet last stop false
+ends-outside sheet last stop h k ls at there = absurd (omega (arith, h, k, at .inside))
 
 -- a line stands there, whose letter says what it is
-some-last : (sheet : List ℕ) (last from : ℕ) (ls : List RenderLine) → last < from → LastLine sheet 5 from last ls
+some-last : (sheet : List ℕ) (last stop : ℕ) (ls : List RenderLine) → last < stop → LastLine sheet 5 stop last ls
     → not (eqb (getD sheet last 0) 0x4C) ≡ endsInBorder ls
-some-last sheet last from ls h (none-there x y) = absurd (omega (arith, h, x))
-some-last sheet last from ls h (last-there k before l e b t r) =
-    sym (ap endsInBorder e ∙ ends-in before l ∙ line-kind (getD sheet last 0) (part (last + 3) from sheet) l r)
+some-last sheet last stop ls h (none-there x y) = absurd (omega (arith, h, x))
+some-last sheet last stop ls h (last-there k before l e b t r) =
+    sym (ap endsInBorder e ∙ ends-in before l ∙ line-kind (getD sheet last 0) (part (last + 3) stop sheet) l r)
 
 -- The letter of the last line says whether it is a border.
-pub ends-kind : (sheet : List ℕ) (last from : ℕ) (r : Bool) → last < from → r ≡ not (eqb (getD sheet last 0) 0x4C) → EndsInBorder sheet last from r
-ends-kind sheet last from r h e ls at there = e ∙ some-last sheet last from ls h there
+pub ends-kind : (sheet : List ℕ) (last stop : ℕ) (r : Bool) → last < stop → r ≡ not (eqb (getD sheet last 0) 0x4C) → EndsInBorder sheet last stop r
+ends-kind sheet last stop r h e ls at there = e ∙ some-last sheet last stop ls h there
 
 -- ---- a border with other segments
 
@@ -100,7 +100,7 @@ pub joined-plain : (out out′ : List ℕ) (p r : Lines) (letter : ℕ) (bytes :
     → PutsBorder out p (getD bytes 0 0) segs out′ r → PutsJoined out p letter bytes holes segs out′ r
 joined-plain out out′ p r letter bytes holes segs k n puts a ss hs read from st ls e = go hs (same-border letter bytes a ss hs k read)
   where
-    go : (hs : List Hole) → (letter ≡ line-letter (border a ss hs)) × (bytes ≡ content (border a ss hs)) → Emitted st (ls ++ (border a segs hs ∷ [])) [] out′ r
+    go : (hs : List Hole) → (letter ≡ line-letter (border a ss hs)) × (bytes ≡ content (border a ss hs)) → Emitted st (ls ++ (border a segs hs ∷ [])) [] [] out′ r
     go [] same = let first : getD bytes 0 0 ≡ a = ap (λ (l : List ℕ). getD l 0 0) (same .1) in rw first at (puts st ls e)
     go (h ∷ hs) same = absurd (n (same .0))
 
@@ -122,8 +122,8 @@ pub holed-more : (out o₁ o₂ o₃ o₄ out′ : List ℕ) (p r : Lines) (a : 
     → n ≡ 3 + length segs + length (holesBytes (h ∷ hs)) → r .count ≡ p .count + 1
     → ((p .long ≡ true) × (r .long ≡ p .long)) ⊎ ((p .long ≡ false) × (r .long ≡ ltb 65535 n)) → Wrote out (p .at) (head 0x47 (n % 65536)) o₁ start
     → Wrote o₁ start (a ∷ []) o₂ first → Wrote o₂ first (two (length segs % 65536)) o₃ second → Wrote o₃ second segs o₄ third
-    → Wrote o₄ third (holesBytes (h ∷ hs)) out′ (r .at) → (st : List ℕ) (ls : List RenderLine) → Emitted st ls [] out p
-    → Emitted st (ls ++ (border a segs (h ∷ hs) ∷ [])) [] out′ r
+    → Wrote o₄ third (holesBytes (h ∷ hs)) out′ (r .at) → (st : List ℕ) (ls : List RenderLine) → Emitted st ls [] [] out p
+    → Emitted st (ls ++ (border a segs (h ∷ hs) ∷ [])) [] [] out′ r
 holed-more out o₁ o₂ o₃ o₄ out′ p r a segs h hs n start first second third is count came u v w x y st ls e =
     let bs = content (border a segs (h ∷ hs)) in
     let all : n ≡ length bs = is ∙ sym (holed-length a segs h hs) in
@@ -149,7 +149,7 @@ joined-holed out o₁ o₂ o₃ o₄ out′ p r letter bytes holes segs n start 
     tail = take-all (length bytes - holes) (drop holes bytes) (rw length-drop (omega arith))
 
     go : (hs : List Hole) → (letter ≡ line-letter (border a ss hs)) × (bytes ≡ content (border a ss hs)) → holesBytes hs ≡ drop holes bytes
-        → Emitted st (ls ++ (border a segs hs ∷ [])) [] out′ r
+        → Emitted st (ls ++ (border a segs hs ∷ [])) [] [] out′ r
     go [] same after = absurd (omega (arith, g, same .0))
     go (h ∷ hs) same after =
         let one : getD bytes 0 0 ≡ a = ap (λ (l : List ℕ). getD l 0 0) (same .1) in
@@ -207,43 +207,43 @@ on-none f (text ps ∷ q ∷ ls) e = ap (λ (z : List RenderLine). text ps ∷ z
 on-none f (border b t gs ∷ q ∷ ls) e = ap (λ (z : List RenderLine). border b t gs ∷ z) (on-none f (q ∷ ls) e)
 
 -- a last line that is a border
-record BorderThere (sheet : List ℕ) (from last : ℕ) (ls : List RenderLine) : Type 0 where
+record BorderThere (sheet : List ℕ) (stop last : ℕ) (ls : List RenderLine) : Type 0 where
   before : List RenderLine
   a : ℕ
   segs : List ℕ
   hs : List Hole
   are : ls ≡ before ++ (border a segs hs ∷ [])
   behind : LinesAt sheet 5 last before
-  reads : readLine (whole (getD sheet last 0) (part (last + 3) from sheet)) ≡ some (border a segs hs)
+  reads : readLine (whole (getD sheet last 0) (part (last + 3) stop sheet)) ≡ some (border a segs hs)
 
 -- the last line of lines that end in a border
-border-there : (sheet : List ℕ) (from last : ℕ) (ls : List RenderLine) → endsInBorder ls ≡ true → LastLine sheet 5 from last ls → BorderThere sheet from last ls
+border-there : (sheet : List ℕ) (stop last : ℕ) (ls : List RenderLine) → endsInBorder ls ≡ true → LastLine sheet 5 stop last ls → BorderThere sheet stop last ls
 unfolding endsInBorder
-border-there sheet from last ls b (none-there x y) =
+border-there sheet stop last ls b (none-there x y) =
     let z : endsInBorder ls ≡ false = ap endsInBorder y in
     absurd (let z : _≡_ {A = ℕ} 0 1 = cc in omega arith)
-border-there sheet from last ls b (last-there h before (text ps) e behind t reads) =
+border-there sheet stop last ls b (last-there h before (text ps) e behind t reads) =
     let z : endsInBorder ls ≡ false = ap endsInBorder e ∙ ends-in before (text ps) in
     absurd (let z : _≡_ {A = ℕ} 0 1 = cc in omega arith)
-border-there sheet from last ls b (last-there h before (border a segs hs) e behind t reads) =
+border-there sheet stop last ls b (last-there h before (border a segs hs) e behind t reads) =
     record { before = before; a = a; segs = segs; hs = hs; are = e; behind = behind; reads = reads }
 
 -- The lines before a last border, and the border as the row makes it.
-pub old-joined : (out mid out′ sheet : List ℕ) (from last : ℕ) (joined : Bool) (cells at end width : List ℕ) (hung : List Bool) (kept : Kept) (collapse : Bool) (none p r : Lines)
+pub old-joined : (out mid out′ sheet : List ℕ) (stop last : ℕ) (joined : Bool) (cells at end width : List ℕ) (hung : List Bool) (kept : Kept) (collapse : Bool) (none p r : Lines)
     → joined ≡ true → none ≡ noLines → CopiesLines out none (part 5 last sheet) mid p
-    → PutsPrev mid p (getD sheet last 0) (part (last + 3) from sheet) cells sheet at end width hung kept collapse out′ r
-    → AddsOld out sheet from last joined cells at end width hung kept collapse out′ r
-old-joined out mid out′ sheet from last joined cells at end width hung kept collapse none p r on start copies puts to span xs total row ls is =
-    let t = border-there sheet from last ls (sym (is .kind) ∙ on) (is .there) in
+    → PutsPrev mid p (getD sheet last 0) (part (last + 3) stop sheet) cells sheet at end width hung kept collapse out′ r
+    → AddsOld out sheet stop last joined cells at end width hung kept collapse out′ r
+old-joined out mid out′ sheet stop last joined cells at end width hung kept collapse none p r on start copies puts to span xs total row ls is =
+    let t = border-there sheet stop last ls (sym (is .kind) ∙ on) (is .there) in
     let f = borderAbove collapse xs in
-    let m : Emitted out (t .before) [] mid p = copies (t .before) (t .behind .reads) out [] (rw start (emitted-none out)) in
+    let m : Emitted out (t .before) [] [] mid p = copies (t .before) (t .behind .reads) out [] (rw start (emitted-none out)) in
     let e : onLast f ls ≡ t .before ++ (border (t .a) (f (t .segs)) (t .hs) ∷ []) = ap (onLast f) (t .are) ∙ on-border f (t .before) (t .a) (t .segs) (t .hs) in
     rw e (puts to span xs total row (t .a) (t .segs) (t .hs) (t .reads) out (t .before) m)
 
 -- All of them, where the last is no border.
-pub old-plain : (out out′ sheet : List ℕ) (from last : ℕ) (joined : Bool) (cells at end width : List ℕ) (hung : List Bool) (kept : Kept) (collapse : Bool) (none r : Lines)
-    → joined ≡ false → none ≡ noLines → CopiesLines out none (part 5 from sheet) out′ r → AddsOld out sheet from last joined cells at end width hung kept collapse out′ r
-old-plain out out′ sheet from last joined cells at end width hung kept collapse none r off start copies to span xs total row ls is =
+pub old-plain : (out out′ sheet : List ℕ) (stop last : ℕ) (joined : Bool) (cells at end width : List ℕ) (hung : List Bool) (kept : Kept) (collapse : Bool) (none r : Lines)
+    → joined ≡ false → none ≡ noLines → CopiesLines out none (part 5 stop sheet) out′ r → AddsOld out sheet stop last joined cells at end width hung kept collapse out′ r
+old-plain out out′ sheet stop last joined cells at end width hung kept collapse none r off start copies to span xs total row ls is =
     rw (on-none (borderAbove collapse xs) ls (sym (is .kind) ∙ off)) (copies ls (is .lines .reads) out [] (rw start (emitted-none out)))
 
 -- No lines are in bounds.

@@ -36,24 +36,24 @@ PutsHoled out p a segs cells sheet first collapse height out′ r =
     (s : RenderOptions) → s .annotation ≡ a → (xs : List Slot) (total : ℕ) → SlotsLeft cells sheet first xs total → Every WideSeat xs
     → anyHole (holesBelow s collapse height xs) ≡ true
     → (cut : List ℕ) → (length (holesBytes (holesBelow s collapse height xs)) ≤ 65535 → segs ≡ cut) → anyPast (length cut) (holesBelow s collapse height xs) ≡ false
-    → (st : List ℕ) (ls : List RenderLine) → Emitted st ls [] out p
-    → Emitted st (ls ++ (border a cut (holesBelow s collapse height xs) ∷ [])) [] out′ r
+    → (st : List ℕ) (ls : List RenderLine) → Emitted st ls [] [] out p
+    → Emitted st (ls ++ (border a cut (holesBelow s collapse height xs) ∷ [])) [] [] out′ r
 
 -- `add_drawn`: with pad a text, of segments that are the cut ones wherever each line is short enough to be laid
 abbrev pub DrawsHoled : List ℕ → Lines → RenderOptions → List ℕ → List ℕ → List ℕ → Slots → Bool → ℕ → List ℕ → Lines → Type 0
 DrawsHoled out p s segs cells sheet first collapse height out′ r =
     s .pad ≡ true → (xs : List Slot) (total : ℕ) → SlotsLeft cells sheet first xs total → Every WideSeat xs
     → anyPast (length segs) (holesBelow s collapse height xs) ≡ false → (cut : List ℕ) → (Every (ShortSeat s collapse height 65538) xs → segs ≡ cut)
-    → (st : List ℕ) (ls : List RenderLine) → Emitted st ls [] out p
-    → Emitted st (ls ++ (padded s (border (s .annotation) cut (holesBelow s collapse height xs)) ∷ [])) [] out′ r
+    → (st : List ℕ) (ls : List RenderLine) → Emitted st ls [] [] out p
+    → Emitted st (ls ++ (padded s (border (s .annotation) cut (holesBelow s collapse height xs)) ∷ [])) [] [] out′ r
 
 -- `add_holed`: the border in the buffer, cut for its holes
 abbrev pub AddsHoled : List ℕ → Lines → RenderOptions → List ℕ → ℕ → List ℕ → List ℕ → Slots → Bool → ℕ → List ℕ → Lines → Type 0
 AddsHoled out p s buffer n cells sheet first collapse height out′ r =
     (xs : List Slot) (total : ℕ) → SlotsLeft cells sheet first xs total → Every WideSeat xs → anyHole (holesBelow s collapse height xs) ≡ true
     → (b : List ℕ) → Keeps buffer n b → anyPast (length b) (holesBelow s collapse height xs) ≡ false
-    → (st : List ℕ) (ls : List RenderLine) → Emitted st ls [] out p
-    → Emitted st (ls ++ (padded s (border (s .annotation) (cutAll b (holesBelow s collapse height xs)) (holesBelow s collapse height xs)) ∷ [])) [] out′ r
+    → (st : List ℕ) (ls : List RenderLine) → Emitted st ls [] [] out p
+    → Emitted st (ls ++ (padded s (border (s .annotation) (cutAll b (holesBelow s collapse height xs)) (holesBelow s collapse height xs)) ∷ [])) [] [] out′ r
 
 -- the row below which the border stands: its seats, kept and from the first on, each that hangs on with a column, and no hole past the border
 pub record RowBelow (s : RenderOptions) (cells sheet at end width : List ℕ) (hung : List Bool) (kept : Kept) (first : Slots) (joined collapse : Bool) (total height : ℕ) (holes : Bool) (xs : List Slot) : Type 0 where
@@ -70,7 +70,7 @@ pub record RowBelow (s : RenderOptions) (cells sheet at end width : List ℕ) (h
 abbrev pub AddsBelow : List ℕ → Lines → RenderOptions → List ℕ → List ℕ → List ℕ → List ℕ → List ℕ → List Bool → Kept → Slots → Bool → Bool → ℕ → ℕ → Bool → List ℕ → Lines → Type 0
 AddsBelow out p s cells sheet at end width hung kept first joined collapse total height holes out′ r =
     (xs : List Slot) → RowBelow s cells sheet at end width hung kept first joined collapse total height holes xs
-    → (st : List ℕ) (ls : List RenderLine) → Emitted st ls [] out p
+    → (st : List ℕ) (ls : List RenderLine) → Emitted st ls [] [] out p
     → Emitted st
     (ls ++ map (padded s) (ifDrawn s (border (s .annotation) (cutAll (borderBelow joined total xs (map (columnOf collapse) xs)) (holesBelow s collapse height xs)) (holesBelow s collapse height xs))))
-    [] out′ r
+    [] [] out′ r

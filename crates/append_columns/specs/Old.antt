@@ -18,29 +18,29 @@ use Rattle.extend_lines.specs.declared.line.Lines.{Lines}
 
 -- `ends_in_border`
 abbrev pub EndsInBorder : List ℕ → ℕ → ℕ → Bool → Type 0
-EndsInBorder sheet last from r = (ls : List RenderLine) → LinesAt sheet 5 from ls → LastLine sheet 5 from last ls → r ≡ endsInBorder ls
+EndsInBorder sheet last stop r = (ls : List RenderLine) → LinesAt sheet 5 stop ls → LastLine sheet 5 stop last ls → r ≡ endsInBorder ls
 
--- `put_joined`: a border with other segments, whose holes stand from a place on
+-- `put_joined`: a border with other segments, whose holes stand stop a place on
 abbrev pub PutsJoined : List ℕ → Lines → ℕ → List ℕ → ℕ → List ℕ → List ℕ → Lines → Type 0
 PutsJoined out p letter content holes segs out′ r =
     (a : ℕ) (ss : List ℕ) (hs : List Hole) → readLine (whole letter content) ≡ some (border a ss hs) → HolesFrom content holes hs
-    → (st : List ℕ) (ls : List RenderLine) → Emitted st ls [] out p → Emitted st (ls ++ (border a segs hs ∷ [])) [] out′ r
+    → (st : List ℕ) (ls : List RenderLine) → Emitted st ls [] [] out p → Emitted st (ls ++ (border a segs hs ∷ [])) [] [] out′ r
 
 -- `put_prev_border`
 abbrev pub PutsPrev : List ℕ → Lines → ℕ → List ℕ → List ℕ → List ℕ → List ℕ → List ℕ → List ℕ → List Bool → Kept → Bool → List ℕ → Lines → Type 0
 PutsPrev out p letter content cells sheet at end width hung kept collapse out′ r =
     (to span : List ℕ) (xs : List Slot) (total : ℕ) → RowKept cells sheet at end width to span hung kept xs total
     → (a : ℕ) (segs : List ℕ) (hs : List Hole) → readLine (whole letter content) ≡ some (border a segs hs)
-    → (st : List ℕ) (ls : List RenderLine) → Emitted st ls [] out p → Emitted st (ls ++ (border a (borderAbove collapse xs segs) hs ∷ [])) [] out′ r
+    → (st : List ℕ) (ls : List RenderLine) → Emitted st ls [] [] out p → Emitted st (ls ++ (border a (borderAbove collapse xs segs) hs ∷ [])) [] [] out′ r
 
 -- where the last line of a sheet stands, whose lines end at a place, and whether it is a border
-pub record OldAt (sheet : List ℕ) (from last : ℕ) (joined : Bool) (ls : List RenderLine) : Type 0 where
-  pub lines : LinesAt sheet 5 from ls
-  pub there : LastLine sheet 5 from last ls
+pub record OldAt (sheet : List ℕ) (stop last : ℕ) (joined : Bool) (ls : List RenderLine) : Type 0 where
+  pub lines : LinesAt sheet 5 stop ls
+  pub there : LastLine sheet 5 stop last ls
   pub kind : joined ≡ endsInBorder ls
 
 -- `add_old`
 abbrev pub AddsOld : List ℕ → List ℕ → ℕ → ℕ → Bool → List ℕ → List ℕ → List ℕ → List ℕ → List Bool → Kept → Bool → List ℕ → Lines → Type 0
-AddsOld out sheet from last joined cells at end width hung kept collapse out′ r =
+AddsOld out sheet stop last joined cells at end width hung kept collapse out′ r =
     (to span : List ℕ) (xs : List Slot) (total : ℕ) → RowKept cells sheet at end width to span hung kept xs total
-    → (ls : List RenderLine) → OldAt sheet from last joined ls → Emitted out (onLast (borderAbove collapse xs) ls) [] out′ r
+    → (ls : List RenderLine) → OldAt sheet stop last joined ls → Emitted out (onLast (borderAbove collapse xs) ls) [] [] out′ r

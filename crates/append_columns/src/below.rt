@@ -3,6 +3,7 @@
 use extend_lines::line::Lines;
 use extend_lines::line::add_border;
 use extend_lines::line::add_text_line;
+use extend_lines::line::too_long;
 use fields::store::put_byte;
 use fields::store::put_bytes;
 use fields::store::put_head;
@@ -12,7 +13,6 @@ use row_holes::row::cut_holes;
 use row_holes::row::put_holes;
 use row_holes::text::push_holes;
 use row_lines::long::is_long;
-use row_lines::long::too_long;
 use rows::RenderOptions;
 use seats::keep::Kept;
 use slots::seat::Slots;

@@ -1,7 +1,9 @@
-// The row: what is asked of it before anything is written, and its lines and its borders with what hangs on. What a function here requires, its
-// callers in this crate show.
+// The row: what is asked of it before anything is written, and its lines and its borders with what waits and what hangs on. What a function
+// here requires, its callers in this crate show.
 use crate::below::add_below;
 use crate::old::add_old;
+use extend_lines::copy::hand_on;
+use extend_lines::line::Lines;
 use extend_lines::line::close;
 use fields::answer::Rendered;
 use fields::answer::refuse;
@@ -17,11 +19,14 @@ use slots::seat::Slots;
 use slots::seat::first_slots;
 ghost use mathlib.Core.Path.{_≡_};
 ghost use mathlib.Core.Bool.{not, _&&_};
+ghost use Prim.Native.Nat.{_≤_};
+ghost use lib.ListN.{length};
 ghost use Rattle.slots.specs.Seats.{SlotsIn};
+ghost use Rattle.extend_lines.specs.Emitted.{InBounds};
 ghost use Rattle.seats.specs.Keep.{RowIn};
 ghost use Rattle.seats.specs.Survey.{SurveyIn};
 ghost use Rattle.row_lines.specs.Row.{Narrow};
-ghost use Rattle.append_columns.specs.Lay.{OldIn, Asks, AddsAll, Lays};
+ghost use Rattle.append_columns.specs.Lay.{Asks, HandsNames, OldIn, AddsAll, Lays};
 
 // The refusal of a row, 6 or 10, or 0; and whether the border below it has holes.
 pub struct Asked {
@@ -72,10 +77,30 @@ fn ask(cells: &[u8], sheet: &[u8], first: Slots, joined: bool, collapse: bool, s
     }
 }
 
-// The old lines, the row's, the border below it and what hangs on.
+// The names that wait on the sheet, between the two places, are handed on where the row has no line to take them.
+fn hand_names(
+    out: &mut [u8],
+    lines: Lines,
+    sheet: &[u8],
+    stop: usize,
+    from: usize,
+    height: usize,
+) -> Lines
+    requires { ⌜ InBounds lines × (stop ≤ from) × (from ≤ length (now sheet)) ⌝ }
+    ensures { λ r. ⌜ HandsNames (now (out .entry)) lines (now (sheet .entry)) stop from height (now (out .exit)) r ⌝ }
+{
+    let mut left = from;
+    if height == 0 {
+        left = stop;
+    }
+    hand_on(out, lines, &sheet[left..from])
+}
+
+// The old lines, the row's, the border below it, the names that wait on and what hangs on.
 fn add_all(
     options: RenderOptions,
     sheet: &[u8],
+    stop: usize,
     from: usize,
     last: usize,
     joined: bool,
@@ -92,9 +117,9 @@ fn add_all(
     holes: bool,
     store: &mut [u8],
 ) -> Rendered
-    requires { ⌜ OldIn (now sheet) from last joined × RowIn (now cells) (now sheet) (now at) (now end) (now width) kept ⌝ }
+    requires { ⌜ OldIn (now sheet) stop from last joined × RowIn (now cells) (now sheet) (now at) (now end) (now width) kept ⌝ }
     requires { ⌜ Narrow (now width) (now to) (kept .n) × SlotsIn (now cells) (now sheet) first × SurveyIn s ⌝ }
-    ensures { λ r. ⌜ AddsAll options (now (sheet .entry)) from last joined (now (cells .entry)) collapse
+    ensures { λ r. ⌜ AddsAll options (now (sheet .entry)) stop from last joined (now (cells .entry)) collapse
         (now (at .entry)) (now (end .entry)) (now (width .entry)) (now (to .entry)) (now (hung .entry))
         kept first s holes (now (store .entry)) r (now (store .exit)) ⌝ }
 {
@@ -103,7 +128,7 @@ fn add_all(
     let old = add_old(
         store,
         sheet,
-        from,
+        stop,
         last,
         joined,
         cells,
@@ -118,6 +143,7 @@ fn add_all(
     let rows = add_row(
         store,
         old,
+        &sheet[stop..from],
         options,
         cells,
         sheet,
@@ -150,19 +176,11 @@ fn add_all(
         holes,
         &mut border,
     );
+    let tail = hand_names(store, lines, sheet, stop, from, s.height);
     if s.plain {
-        return close(lines, store);
+        return close(tail, store);
     }
-    let all = hang_on(
-        store,
-        lines,
-        options,
-        cells,
-        sheet,
-        from,
-        collapse,
-        s.height,
-    );
+    let all = hang_on(store, tail, options, cells, sheet, from, collapse, s.height);
     close(all, store)
 }
 
@@ -170,6 +188,7 @@ fn add_all(
 pub fn lay(
     options: RenderOptions,
     sheet: &[u8],
+    stop: usize,
     from: usize,
     last: usize,
     joined: bool,
@@ -177,8 +196,8 @@ pub fn lay(
     collapse: bool,
     store: &mut [u8],
 ) -> Rendered
-    requires { ⌜ OldIn (now sheet) from last joined ⌝ }
-    ensures { λ r. ⌜ Lays options (now (sheet .entry)) from last joined (now (cells .entry)) collapse (now (store .entry)) r (now (store .exit)) ⌝ }
+    requires { ⌜ OldIn (now sheet) stop from last joined ⌝ }
+    ensures { λ r. ⌜ Lays options (now (sheet .entry)) stop from last joined (now (cells .entry)) collapse (now (store .entry)) r (now (store .exit)) ⌝ }
 {
     let mut at = [0usize; 16];
     let mut end = [0usize; 16];
@@ -216,6 +235,7 @@ pub fn lay(
     add_all(
         options,
         sheet,
+        stop,
         from,
         last,
         joined,

@@ -1,7 +1,8 @@
-// `append_columns_with_borders` (document 01, "Rows and blocks on a sheet", and request 2.1): a row of cells beside each other, among them
-// those that hang from the rows above; the border above it joined to their inner edges, the border below it likewise, with holes for the cells
-// that hang on, and with collapsing the cells' first and last borders merged into the two. No heap: the first 16 cells are kept in arrays, a
-// border is put together in 65,536 bytes of stack, and a line that comes where the border is in 65,538.
+// `append_columns_with_borders` (document 01, "Rows and blocks on a sheet", and requests 2.1 and 2.2): a row of cells beside each other, among
+// them those that hang from the rows above; the border above it joined to their inner edges, the border below it likewise, with holes for the
+// cells that hang on, and with collapsing the cells' first and last borders merged into the two. The row's first line takes the names that wait
+// on the sheet; where the row has no line they wait on. No heap: the first 16 cells are kept in arrays, a border is put together in 65,536
+// bytes of stack, and a line that comes where the border is in 65,538.
 mod below;
 mod lay;
 mod old;
@@ -10,7 +11,7 @@ use crate::lay::lay;
 use crate::old::ends_in_border;
 use bodies::walk::last_line;
 use checks::cells::cells_refusal;
-use checks::sheet::first_hanging;
+use checks::sheet::sheet_parts;
 use checks::sheet::sheet_refusal;
 use fields::answer::Rendered;
 use fields::answer::refuse;
@@ -37,8 +38,20 @@ pub fn append_columns_with_borders(
     if n != 0 {
         return refuse(n, store);
     }
-    let from = first_hanging(sheet);
-    let last = last_line(sheet, 5, from);
-    let joined = ends_in_border(sheet, last, from);
-    lay(options, sheet, from, last, joined, cells, collapse, store)
+    let parts = sheet_parts(sheet);
+    let stop = parts.names;
+    let from = parts.hanging;
+    let last = last_line(sheet, 5, stop);
+    let joined = ends_in_border(sheet, last, stop);
+    lay(
+        options,
+        sheet,
+        stop,
+        from,
+        last,
+        joined,
+        cells,
+        collapse,
+        store,
+    )
 }

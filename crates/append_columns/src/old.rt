@@ -4,13 +4,13 @@ use extend_lines::copy::copy_lines;
 use extend_lines::line::Lines;
 use extend_lines::line::no_lines;
 use extend_lines::line::put_border;
+use extend_lines::line::too_long;
 use fields::store::put_byte;
 use fields::store::put_bytes;
 use fields::store::put_head;
 use fields::store::put_two;
 use places::border::border_parts;
 use row_borders::border::prev_border;
-use row_lines::long::too_long;
 use seats::keep::Kept;
 ghost use mathlib.Core.Path.{_≡_};
 ghost use mathlib.Core.Bool.{true};
@@ -22,10 +22,10 @@ ghost use Rattle.seats.specs.Keep.{RowIn};
 ghost use Rattle.append_columns.specs.Old.{EndsInBorder, PutsJoined, PutsPrev, AddsOld};
 
 // Whether a sheet's lines, which end at a place, end in a border that stands at another.
-pub fn ends_in_border(sheet: &[u8], last: usize, from: usize) -> bool
-    ensures { λ r. ⌜ (r ≡ true → last < from) × EndsInBorder (now (sheet .entry)) last from r ⌝ }
+pub fn ends_in_border(sheet: &[u8], last: usize, stop: usize) -> bool
+    ensures { λ r. ⌜ (r ≡ true → last < stop) × EndsInBorder (now (sheet .entry)) last stop r ⌝ }
 {
-    if from <= last {
+    if stop <= last {
         return false;
     }
     if sheet.len() <= last {
@@ -115,7 +115,7 @@ fn put_prev_border(
 pub fn add_old(
     out: &mut [u8],
     sheet: &[u8],
-    from: usize,
+    stop: usize,
     last: usize,
     joined: bool,
     cells: &[u8],
@@ -127,23 +127,23 @@ pub fn add_old(
     collapse: bool,
     border: &mut [u8],
 ) -> Lines
-    requires { ⌜ (5 ≤ last) × (last ≤ from) × (from ≤ length (now sheet)) × (joined ≡ true → last + 3 ≤ from) × (from ≤ last + 65538) ⌝ }
-    requires { ⌜ (length (raws (part 5 from (now sheet))) ≤ 65535) × (length (raws (part 5 last (now sheet))) ≤ 65535) ⌝ }
+    requires { ⌜ (5 ≤ last) × (last ≤ stop) × (stop ≤ length (now sheet)) × (joined ≡ true → last + 3 ≤ stop) × (stop ≤ last + 65538) ⌝ }
+    requires { ⌜ (length (raws (part 5 stop (now sheet))) ≤ 65535) × (length (raws (part 5 last (now sheet))) ≤ 65535) ⌝ }
     requires { ⌜ (length (now border) ≡ 65536) × RowIn (now cells) (now sheet) (now at) (now end) (now width) kept ⌝ }
     ensures { λ r. ⌜ InBounds r × (r .count ≤ 65536) × (length (now (border .exit)) ≡ length (now (border .entry))) ⌝ }
-    ensures { λ r. ⌜ AddsOld (now (out .entry)) (now (sheet .entry)) from last joined (now (cells .entry))
+    ensures { λ r. ⌜ AddsOld (now (out .entry)) (now (sheet .entry)) stop last joined (now (cells .entry))
         (now (at .entry)) (now (end .entry)) (now (width .entry)) (now (hung .entry))
         kept collapse (now (out .exit)) r ⌝ }
 {
     if !joined {
-        return copy_lines(out, no_lines(), &sheet[5..from]);
+        return copy_lines(out, no_lines(), &sheet[5..stop]);
     }
     let old = copy_lines(out, no_lines(), &sheet[5..last]);
     put_prev_border(
         out,
         old,
         sheet[last],
-        &sheet[last + 3..from],
+        &sheet[last + 3..stop],
         cells,
         sheet,
         at,

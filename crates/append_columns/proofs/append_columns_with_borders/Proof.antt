@@ -40,8 +40,8 @@ returns c =
     let a = c .before .before .before .before .before .before .before .before .before .before .before .before .before .args in
     call-refused _ _ (a .options) (now (a .sheet)) (now (a .cells)) (a .collapse) (now (a .store)) (number (c .before .before .before .before .before)) (c .before .before .before .before .if1 .taken) (c .before .before .refuse .ensures)
 
-first-hanging-requires : tie.Need-first-hanging-requires
-first-hanging-requires c κs = search needs
+sheet-parts-requires : tie.Need-sheet-parts-requires
+sheet-parts-requires c κs = search needs
 
 last-line-requires : tie.Need-last-line-requires
 last-line-requires c κs = search needs
@@ -52,7 +52,7 @@ ends-in-border-requires c κs = search needs
 lay-requires : tie.Need-lay-requires
 lay-requires c κs =
     let a = c .before .before .before .before .before .before .before .before .before .before .before .before .before .args in
-    let h = c .before .before .before .first-hanging in
+    let h = c .before .before .before .sheet-parts in
     let l = c .before .before .last-line in
     let e = c .before .ends-in-border in
     old-in _ (a .options) (now (a .sheet)) (now (a .cells)) (number (c .before .before .before .before .before)) (c .before .before .before .before .if1 .left) (h .result) (l .result) (e .result) (h .ensures .1) (l .ensures .0) (l .ensures .1) (e .ensures .0) (e .ensures .1)
@@ -63,7 +63,7 @@ same-length-2 c = search needs
 returns-2 : tie.Need-returns-2
 returns-2 c =
     let a = c .before .before .before .before .before .before .before .before .before .before .before .before .before .before .before .before .args in
-    let h = c .before .before .before .before .before .before .first-hanging in
+    let h = c .before .before .before .before .before .before .sheet-parts in
     let l = c .before .before .before .before .before .last-line in
     let e = c .before .before .before .before .ends-in-border in
     call-laid _ (a .options) (now (a .sheet)) (now (a .cells)) (number (c .before .before .before .before .before .before .before .before)) (c .before .before .before .before .before .before .before .if1 .left) (h .result) (l .result) (e .result) (h .ensures .1) (l .ensures .0) (l .ensures .1) (e .ensures .0) (e .ensures .1) (a .collapse) (c .before .before .lay .result) (now (a .store)) _ (c .before .before .lay .ensures)
@@ -80,7 +80,7 @@ append-columns-with-borders-spec =
     refuse-requires
     same-length
     returns
-    first-hanging-requires
+    sheet-parts-requires
     last-line-requires
     ends-in-border-requires
     lay-requires

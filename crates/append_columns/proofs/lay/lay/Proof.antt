@@ -27,7 +27,7 @@ same-length c = search needs
 returns : tie.Need-returns
 returns c =
     let a = c .before .before .before .before .before .before .before .before .before .before .before .before .before .before .before .before .before .before .before .before .before .before .before .before .args in
-    lays-refused (a .options) (now (a .sheet)) (a .from) (a .last) (a .joined) (now (a .cells)) (a .collapse) _ _ _ _ _ _ (c .before .before .before .before .before .before .before .before .before .before .before .before .before .keep-seats .result) (c .before .before .before .before .before .before .before .before .before .before .before .before .before .before .before .before .before .before .before .before .first-slots .result) (c .before .before .before .before .before .before .before .survey .result) (c .before .before .before .before .before .before .ask .result) (c .before .before .before .before .before .before .before .before .before .before .before .before .before .before .before .before .before .before .before .before .first-slots .ensures .1) (c .before .before .before .before .before .before .before .before .before .before .before .before .before .keep-seats .ensures .1) (c .before .before .before .before .before .before .before .survey .ensures .1) (c .before .before .before .before .before .before .ask .ensures) (c .before .before .refuse .result) (now (a .store)) _ (c .before .before .before .before .if1 .taken) (c .before .before .refuse .ensures)
+    lays-refused (a .options) (now (a .sheet)) (a .stop) (a .from) (a .last) (a .joined) (now (a .cells)) (a .collapse) _ _ _ _ _ _ (c .before .before .before .before .before .before .before .before .before .before .before .before .before .keep-seats .result) (c .before .before .before .before .before .before .before .before .before .before .before .before .before .before .before .before .before .before .before .before .first-slots .result) (c .before .before .before .before .before .before .before .survey .result) (c .before .before .before .before .before .before .ask .result) (c .before .before .before .before .before .before .before .before .before .before .before .before .before .before .before .before .before .before .before .before .first-slots .ensures .1) (c .before .before .before .before .before .before .before .before .before .before .before .before .before .keep-seats .ensures .1) (c .before .before .before .before .before .before .before .survey .ensures .1) (c .before .before .before .before .before .before .ask .ensures) (c .before .before .refuse .result) (now (a .store)) _ (c .before .before .before .before .if1 .taken) (c .before .before .refuse .ensures)
 
 add-all-requires : tie.Need-add-all-requires
 add-all-requires c κs =
@@ -40,7 +40,7 @@ same-length-2 c = search needs
 returns-2 : tie.Need-returns-2
 returns-2 c =
     let a = c .before .before .before .before .before .before .before .before .before .before .before .before .before .before .before .before .before .before .before .before .before .before .before .before .before .before .before .before .before .args in
-    lays-row (a .options) (now (a .sheet)) (a .from) (a .last) (a .joined) (now (a .cells)) (a .collapse) _ _ _ _ _ _ (c .before .before .before .before .before .before .before .before .before .before .before .before .before .before .before .before .before .before .keep-seats .result) (c .before .before .before .before .before .before .before .before .before .before .before .before .before .before .before .before .before .before .before .before .before .before .before .before .before .first-slots .result) (c .before .before .before .before .before .before .before .before .before .before .before .before .survey .result) (c .before .before .before .before .before .before .before .before .before .before .before .ask .result) (c .before .before .before .before .before .before .before .before .before .before .before .before .before .before .before .before .before .before .before .before .before .before .before .before .before .first-slots .ensures .1) (c .before .before .before .before .before .before .before .before .before .before .before .before .before .before .before .before .before .before .keep-seats .ensures .1) (c .before .before .before .before .before .before .before .before .before .before .before .before .survey .ensures .1) (c .before .before .before .before .before .before .before .before .before .before .before .ask .ensures) (c .before .before .add-all .result) (now (a .store)) _ (c .before .before .before .before .before .before .before .before .before .if1 .left) (c .before .before .add-all .ensures)
+    lays-row (a .options) (now (a .sheet)) (a .stop) (a .from) (a .last) (a .joined) (now (a .cells)) (a .collapse) _ _ _ _ _ _ (c .before .before .before .before .before .before .before .before .before .before .before .before .before .before .before .before .before .before .keep-seats .result) (c .before .before .before .before .before .before .before .before .before .before .before .before .before .before .before .before .before .before .before .before .before .before .before .before .before .first-slots .result) (c .before .before .before .before .before .before .before .before .before .before .before .before .survey .result) (c .before .before .before .before .before .before .before .before .before .before .before .ask .result) (c .before .before .before .before .before .before .before .before .before .before .before .before .before .before .before .before .before .before .before .before .before .before .before .before .before .first-slots .ensures .1) (c .before .before .before .before .before .before .before .before .before .before .before .before .before .before .before .before .before .before .keep-seats .ensures .1) (c .before .before .before .before .before .before .before .before .before .before .before .before .survey .ensures .1) (c .before .before .before .before .before .before .before .before .before .before .before .ask .ensures) (c .before .before .add-all .result) (now (a .store)) _ (c .before .before .before .before .before .before .before .before .before .if1 .left) (c .before .before .add-all .ensures)
 
 pub lay-spec : {M : Type 1} → statement M
 lay-spec =

@@ -36,7 +36,7 @@ returns c =
     let b = bounds-none _ (none .ensures) in
     let e = c .before .before .copy-lines .ensures in (
       (e .0 .0, omega (arith, b .1, e .0 .1, c .before .before .before .before .before .before .before .before .before .before .before .pre .1 .0 .0), refl),
-      old-plain _ _ (now (a .sheet)) (a .from) (a .last) (a .joined) (now (a .cells)) (now (a .at)) (now (a .end)) (now (a .width)) (now (a .hung)) (a .kept) (a .collapse) _ _ (not-true _ (c .before .before .before .before .before .before .if1 .taken)) (none .ensures) (e .1),
+      old-plain _ _ (now (a .sheet)) (a .stop) (a .last) (a .joined) (now (a .cells)) (now (a .at)) (now (a .end)) (now (a .width)) (now (a .hung)) (a .kept) (a .collapse) _ _ (not-true _ (c .before .before .before .before .before .before .if1 .taken)) (none .ensures) (e .1),
     )
 
 no-lines-requires-2 : tie.Need-no-lines-requires-2
@@ -55,7 +55,7 @@ copy-lines-requires-2 : tie.Need-copy-lines-requires-2
 copy-lines-requires-2 c κs = let b = bounds-none _ (c .before .no-lines2 .ensures) in (b .0, omega (arith, b .1, c .before .before .before .before .before .before .before .before .pre .1 .0 .1))
 
 -- a border has three bytes before its content
-room : (c : tie.After-shared-slice-known3) → c .before .before .before .before .before .before .before .before .before .before .before .before .before .args .last + 3 ≤ c .before .before .before .before .before .before .before .before .before .before .before .before .before .args .from
+room : (c : tie.After-shared-slice-known3) → c .before .before .before .before .before .before .before .before .before .before .before .before .before .args .last + 3 ≤ c .before .before .before .before .before .before .before .before .before .before .before .before .before .args .stop
 room c = c .before .before .before .before .before .before .before .before .before .before .before .before .before .pre .0 .3 (not-false _ (c .before .before .before .before .before .before .before .before .if1 .left))
 
 shared-slice-read-put-prev-border : tie.Need-shared-slice-read-put-prev-border
@@ -77,7 +77,7 @@ put-prev-border-requires : tie.Need-put-prev-border-requires
 put-prev-border-requires c κs =
     let a = c .before .before .before .before .before .before .before .before .before .before .before .before .before .before .before .args in
     let p = c .before .before .before .before .before .before .before .before .before .before .before .before .before .before .before .pre in
-    let size = part-length (a .last + 3) (a .from) (now (a .sheet)) (p .0 .2) in
+    let size = part-length (a .last + 3) (a .stop) (now (a .sheet)) (p .0 .2) in
     (c .before .before .before .before .before .before .copy-lines2 .ensures .0 .0, omega (arith, size, p .0 .4), p .1 .1 .0, p .1 .1 .1)
 
 same-length-2 : tie.Need-same-length-2
@@ -96,7 +96,7 @@ returns-2 c =
     let e = c .before .before .before .before .put-prev-border .ensures in
     let n = bounds-next (c .before .before .before .before .before .before .before .before .before .before .before .copy-lines2 .result) (c .before .before .before .before .put-prev-border .result) (old .0 .0) (omega (arith, b .1, old .0 .1, p .1 .0 .1)) (e .0 .0) in (
       (n .0, n .1, e .0 .1),
-      old-joined _ _ (c .before .before .before .before .put-prev-border .last .0) (now (a .sheet)) (a .from) (a .last) (a .joined) (now (a .cells)) (now (a .at)) (now (a .end)) (now (a .width)) (now (a .hung)) (a .kept) (a .collapse) _ _ _ (not-false _ (c .before .before .before .before .before .before .before .before .before .before .before .before .before .before .before .if1 .left)) (none .ensures) (old .1) (e .1),
+      old-joined _ _ (c .before .before .before .before .put-prev-border .last .0) (now (a .sheet)) (a .stop) (a .last) (a .joined) (now (a .cells)) (now (a .at)) (now (a .end)) (now (a .width)) (now (a .hung)) (a .kept) (a .collapse) _ _ _ (not-false _ (c .before .before .before .before .before .before .before .before .before .before .before .before .before .before .before .if1 .left)) (none .ensures) (old .1) (e .1),
     )
 
 pub add-old-spec : {M : Type 1} → statement M
