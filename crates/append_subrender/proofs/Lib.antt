@@ -1,5 +1,6 @@
 pub mod Pairing
 pub mod Refusing
+pub mod Waiting
 pub mod Adding
 pub mod Stacking
 pub mod Telling

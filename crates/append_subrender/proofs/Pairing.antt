@@ -4,7 +4,7 @@
 use mathlib.Core.Path.{_≡_, refl, sym, ap, _∙_}
 use mathlib.Core.Bool.{Bool, true, false, not, _||_}
 use mathlib.Core.Option.{Option, none, some, Option·map}
-use mathlib.Core.List.{List, [], _∷_, _++_, map, map-append, append-assoc, append-nil}
+use mathlib.Core.List.{List, [], _∷_, _++_, map}
 use Prim.Native.Nat.{ℕ, zero, suc, _+_, _-_, _*_, _≤_, _<_}
 use native.Mathlib.Omega.{arith}
 use lib.Dec.{eqb}
@@ -19,9 +19,11 @@ use Rattle.fields.proofs.Fields.{FieldIs}
 use Rattle.borders.specs.BorderSegHoriz.{Horiz}
 use Rattle.borders.specs.BorderHoriz.{new-type, to-string, _>>=_, as-str, sliceable, to-string-from, holed-to-string}
 use Rattle.fields.specs.TaggedLine.{push-str}
-use Rattle.rows.specs.SubRenderer.{later, padded, add-line, extend-lines, plainBorder, withPrefix, prefixed, append-subrender, ifDrawn, between, appendEach, append-vert-row}
+use Rattle.rows.specs.SubRenderer.{Extended, extended, later, withNames, padded, add-line, extend-lines, plainBorder, withPrefix, prefixed, append-subrender, ifDrawn, between, appendEach, append-vert-row}
 use Rattle.rows.specs.declared.RenderOptions.{RenderOptions}
+use Rattle.rows.specs.Named.{namedLines, namesLeft}
 use Rattle.rows.proofs.Lines.{readable-formed}
+use Rattle.rows.proofs.Adding.{extend-named}
 use Rattle.fields.specs.Spans.{Hole, RenderLine, text, border, Cell}
 use Rattle.rows.specs.Columns.{noneIf, overlaps, holedText}
 use Rattle.fields.proofs.Readings.{read-first, read-none}
@@ -110,19 +112,40 @@ pairs-split s rep (g ∷ gs) (p ∷ ps) =
     (ap (Option·map (λ (ls : List RenderLine). l ∷ ls)) (pairs-split s rep gs (later rep p ps))
     ∙ map-noneIf (λ (ls : List RenderLine). l ∷ ls) (guestMisfit rep gs (later rep p ps)) (behindPrefixes s rep gs (later rep p ps)))
 
-extend-map : (s : RenderOptions) (ls new : List RenderLine) → extend-lines s ls new ≡ ls ++ map (padded s) new
-unfolding extend-lines add-line
-extend-map s ls [] = sym (append-nil ls)
-extend-map s ls (n ∷ new) = extend-map s (ls ++ (padded s n ∷ [])) new ∙ append-assoc ls (padded s n ∷ []) (map (padded s) new)
+-- lines and then others
+extend-append : (s : RenderOptions) (a : Extended) (xs ys : List RenderLine) → extend-lines s (extend-lines s a xs) ys ≡ extend-lines s a (xs ++ ys)
+unfolding extend-lines
+extend-append s a [] ys = refl
+extend-append s a (x ∷ xs) ys = extend-append s (add-line s a x) xs ys
 
--- `append_subrender`: REFUSAL 10 IS THE TEST, AND ELSE THE PAIRS STAND AFTER THE OLD LINES.
-pub subrender-lines : (s : RenderOptions) (old guest : List RenderLine) (rep : Bool) (ps : List (List ℕ))
-    → append-subrender s old guest rep ps ≡ noneIf (guestMisfit rep guest ps) (old ++ map (padded s) (behindPrefixes s rep guest ps))
+subrender-extends : (s : RenderOptions) (a : Extended) (guest : List RenderLine) (rep : Bool) (ps : List (List ℕ))
+    → append-subrender s a guest rep ps ≡ noneIf (guestMisfit rep guest ps) (extend-lines s a (behindPrefixes s rep guest ps))
 unfolding append-subrender
-subrender-lines s old guest rep ps =
-    ap (Option·map (extend-lines s old)) (pairs-split s rep guest ps)
-    ∙ map-noneIf (extend-lines s old) (guestMisfit rep guest ps) (behindPrefixes s rep guest ps)
-    ∙ ap (noneIf (guestMisfit rep guest ps)) (extend-map s old (behindPrefixes s rep guest ps))
+subrender-extends s a guest rep ps =
+    ap (Option·map (extend-lines s a)) (pairs-split s rep guest ps)
+    ∙ map-noneIf (extend-lines s a) (guestMisfit rep guest ps) (behindPrefixes s rep guest ps)
+
+-- old lines and the names that wait, after new lines
+abbrev pub grown : RenderOptions → Extended → List RenderLine → Extended
+grown s a new = extended (a .lines ++ map (padded s) (namedLines (a .names) new)) (namesLeft (a .names) new)
+
+-- `append_subrender`: REFUSAL 10 IS THE TEST, AND ELSE THE PAIRS STAND AFTER THE OLD LINES, the first of them behind the names that wait.
+pub subrender-lines : (s : RenderOptions) (a : Extended) (guest : List RenderLine) (rep : Bool) (ps : List (List ℕ))
+    → append-subrender s a guest rep ps ≡ noneIf (guestMisfit rep guest ps) (grown s a (behindPrefixes s rep guest ps))
+subrender-lines s a guest rep ps =
+    subrender-extends s a guest rep ps ∙ ap (noneIf (guestMisfit rep guest ps)) (extend-named s a (behindPrefixes s rep guest ps))
+
+-- a line behind its prefix is text, so it takes the names
+pub named-first : (s : RenderOptions) (ns : List (List ℕ)) (p : List ℕ) (g : RenderLine) (ls : List RenderLine)
+    → namedLines ns (behindPrefix s p g ∷ ls) ≡ withNames ns (behindPrefix s p g) ∷ ls
+unfolding namedLines
+named-first s ns p (text ps) ls = refl
+named-first s ns p (border a segs hs) ls = refl
+
+pub left-first : (s : RenderOptions) (ns : List (List ℕ)) (p : List ℕ) (g : RenderLine) (ls : List RenderLine) → namesLeft ns (behindPrefix s p g ∷ ls) ≡ []
+unfolding namesLeft
+left-first s ns p (text ps) ls = refl
+left-first s ns p (border a segs hs) ls = refl
 
 -- ---- the lines that have a prefix, by their number
 
@@ -197,43 +220,35 @@ pub cells-misfit-none : cellsMisfit [] ≡ false
 unfolding cellsMisfit
 cells-misfit-none = refl
 
--- three lists after the old lines
-pub three-lists : (s : RenderOptions) (old a b c : List RenderLine)
-    → ((old ++ map (padded s) a) ++ map (padded s) b) ++ map (padded s) c ≡ old ++ map (padded s) (a ++ (b ++ c))
-three-lists s old a b c =
-    let f = map (padded s) in
-    rw (map-append (padded s) a (b ++ c), map-append (padded s) b c, append-assoc (old ++ f a) (f b) (f c), append-assoc old (f a) (f b ++ f c))
-
-each-lines : (s : RenderOptions) (first : Bool) (old : List RenderLine) (cs : List Cell)
-    → appendEach s first old cs ≡ noneIf (cellsMisfit cs) (old ++ map (padded s) (cellLines s first cs))
-unfolding appendEach cellLines cellsMisfit
-each-lines s first old [] = ap some (sym (append-nil old))
-each-lines s first old (c ∷ cs) =
-    let mid = extend-lines s old (between s first) in
+each-lines : (s : RenderOptions) (first : Bool) (a : Extended) (cs : List Cell)
+    → appendEach s first a cs ≡ noneIf (cellsMisfit cs) (extend-lines s a (cellLines s first cs))
+unfolding appendEach cellLines cellsMisfit extend-lines
+each-lines s first a [] = refl
+each-lines s first a (c ∷ cs) =
+    let mid = extend-lines s a (between s first) in
     let new = behindPrefixes s true (c .lines) ([] ∷ []) in
-    let next = mid ++ map (padded s) new in
-    let f : List RenderLine → Option (List RenderLine) = λ ls. appendEach s false ls cs in
+    let next = extend-lines s mid new in
+    let f : Extended → Option Extended = λ b. appendEach s false b cs in
     let one : append-subrender s mid (c .lines) true ([] ∷ []) ≡ noneIf (anyOverlapping (c .lines)) next =
-    subrender-lines s mid (c .lines) true ([] ∷ []) ∙ ap (λ (b : Bool). noneIf b next) (misfit-all (c .lines) [] []) in
-    ap (λ (o : Option (List RenderLine)). o >>= f) one
-    ∙ bind-both (anyOverlapping (c .lines)) (cellsMisfit cs) next f (old ++ map (padded s) (between s first ++ (new ++ cellLines s false cs)))
+    subrender-extends s mid (c .lines) true ([] ∷ []) ∙ ap (λ (b : Bool). noneIf b next) (misfit-all (c .lines) [] []) in
+    ap (λ (o : Option Extended). o >>= f) one
+    ∙ bind-both (anyOverlapping (c .lines)) (cellsMisfit cs) next f (extend-lines s a (between s first ++ (new ++ cellLines s false cs)))
     (each-lines s false next cs
-    ∙ ap (noneIf (cellsMisfit cs))
-    (ap (λ (x : List RenderLine). (x ++ map (padded s) new) ++ map (padded s) (cellLines s false cs)) (extend-map s old (between s first))
-    ∙ three-lists s old (between s first) new (cellLines s false cs)))
+    ∙ ap (noneIf (cellsMisfit cs)) (extend-append s mid new (cellLines s false cs) ∙ extend-append s a (between s first) (new ++ cellLines s false cs)))
 
--- `append_vert_row`: REFUSAL 10 IS THE TEST, AND ELSE THE CELLS' LINES AND THE LAST BORDER STAND AFTER THE OLD LINES.
-pub vert-row-lines : (s : RenderOptions) (old : List RenderLine) (cs : List Cell)
-    → append-vert-row s old cs
-    ≡ noneIf (cellsMisfit cs) ((old ++ map (padded s) (cellLines s true cs)) ++ map (padded s) (ifDrawn s (plainBorder (s .annotation) (new-type (s .width) Horiz))))
+-- `append_vert_row`: REFUSAL 10 IS THE TEST, AND ELSE THE CELLS' LINES AND THE LAST BORDER STAND AFTER THE OLD LINES, the first text among
+-- them behind the names that wait.
+pub vert-row-lines : (s : RenderOptions) (a : Extended) (cs : List Cell)
+    → append-vert-row s a cs
+    ≡ noneIf (cellsMisfit cs) (grown s a (cellLines s true cs ++ ifDrawn s (plainBorder (s .annotation) (new-type (s .width) Horiz))))
 unfolding append-vert-row
-vert-row-lines s old cs =
+vert-row-lines s a cs =
     let last = ifDrawn s (plainBorder (s .annotation) (new-type (s .width) Horiz)) in
-    let f : List RenderLine → List RenderLine = λ ls. extend-lines s ls last in
-    let mid = old ++ map (padded s) (cellLines s true cs) in
-    ap (λ (o : Option (List RenderLine)). o >>= λ ls. some (f ls)) (each-lines s true old cs)
+    let f : Extended → Extended = λ b. extend-lines s b last in
+    let mid = extend-lines s a (cellLines s true cs) in
+    ap (λ (o : Option Extended). o >>= λ b. some (f b)) (each-lines s true a cs)
     ∙ bind-noneIf f (cellsMisfit cs) mid
-    ∙ ap (noneIf (cellsMisfit cs)) (extend-map s mid last)
+    ∙ ap (noneIf (cellsMisfit cs)) (extend-append s a (cellLines s true cs) last ∙ extend-named s a (cellLines s true cs ++ last))
 
 -- ---- prefixes
 

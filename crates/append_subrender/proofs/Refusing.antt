@@ -13,8 +13,8 @@ use Rattle.fields.specs.First.{firstOf, refusalOf}
 use Rattle.fields.specs.Sheet.{readPrefixes}
 use Rattle.fields.specs.Refusals.{prefixesRefusal}
 use Rattle.fields.specs.Spans.{Sheet, Cell, readSheet, readPlainCells, readableSheet, readableCell}
-use Rattle.fields.specs.SpanRefusals.{plainCellsRefusal}
-use Rattle.rows.specs.Answer.{widthRefusal, sheetRefusal, subrenderVerdict, vertRowVerdict}
+use Rattle.fields.specs.SpanRefusals.{sheetRefusal, plainCellsRefusal}
+use Rattle.rows.specs.Answer.{widthRefusal, subrenderVerdict, vertRowVerdict}
 use Rattle.rows.specs.declared.RenderOptions.{RenderOptions}
 use Rattle.checks.proofs.Passing.{sheet-passes, plain-cells-pass}
 use Rattle.checks.proofs.Verdicts.{subrenderNumber, afterSubrender, subrender-goes, vertRowNumber, afterVertRow, vert-row-goes, first-none}

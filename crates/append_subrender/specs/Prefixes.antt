@@ -1,5 +1,5 @@
--- A guest's lines behind their prefixes: what each function does to the sheet's lines, for inputs that passed refusals 1 to 3
--- and 10.
+-- A guest's lines behind their prefixes: what each function does to the sheet's lines and to the names that wait, for inputs that passed
+-- refusals 1 to 3 and 10.
 -- Assumes nothing: these are definitions.
 use mathlib.Core.Path.{_≡_}
 use mathlib.Core.Bool.{Bool, true, false, _&&_}
@@ -14,12 +14,14 @@ use Rattle.fields.specs.Sheet.{readPrefix}
 use Rattle.fields.specs.Widths.{text-width}
 use Rattle.borders.specs.BorderHoriz.{new-type}
 use Rattle.rows.specs.declared.RenderOptions.{RenderOptions}
-use Rattle.rows.specs.SubRenderer.{later, padded, plainBorder}
-use Rattle.fields.specs.Spans.{RenderLine, readLine, readableLine, Cell, readPlainCell, readableCell}
+use Rattle.rows.specs.SubRenderer.{later, withNames, padded, plainBorder}
+use Rattle.rows.specs.Named.{namedLines, namesLeft}
+use Rattle.fields.specs.Spans.{RenderLine, readName, readLine, readableLine, Cell, readPlainCell, readableCell}
 use Rattle.extend_lines.specs.Emitted.{Emitted}
 use Rattle.extend_lines.specs.declared.line.Lines.{Lines}
 use Rattle.append_subrender.specs.Misfit.{overlapping, anyOverlapping, guestMisfit, cellsMisfit, behindPrefix, behindPrefixes, cellLines}
 use Rattle.append_subrender.specs.declared.prefixed.Prefix.{Prefix}
+use Rattle.append_subrender.specs.declared.prefixed.Added.{Added}
 
 -- ---- the prefix of the next line
 
@@ -67,27 +69,42 @@ noPrefix = record { found = false; from = 0; to = 0; cols = 0 }
 
 -- ---- lines
 
--- one line behind its prefix
-abbrev pub AddsPrefixed : List ℕ → Lines → RenderOptions → List ℕ → ℕ → ℕ → List ℕ → List ℕ → Lines → Type 0
-AddsPrefixed out p s prefix cols letter content out′ r =
-    (g : RenderLine) → readLine (whole letter content) ≡ some g → readableLine g ≡ true → overlapping g ≡ false
+-- the names that F fields hold
+abbrev pub NamesOf : List ℕ → List (List ℕ) → Type 0
+NamesOf names ns = readAll readName (raws names) ≡ some ns
+
+-- one line behind the names ns that wait and its prefix
+abbrev pub AddsPrefixed : List ℕ → Lines → RenderOptions → List ℕ → List ℕ → ℕ → ℕ → List ℕ → List ℕ → Lines → Type 0
+AddsPrefixed out p s names prefix cols letter content out′ r =
+    (ns : List (List ℕ)) (g : RenderLine) → NamesOf names ns → readLine (whole letter content) ≡ some g → readableLine g ≡ true → overlapping g ≡ false
     → WellFormed prefix → text-width prefix ≡ cols
-    → (st : List ℕ) (ls : List RenderLine) → Emitted st ls [] out p → Emitted st (ls ++ (padded s (behindPrefix s prefix g) ∷ [])) [] out′ r
+    → (st : List ℕ) (ls : List RenderLine) → Emitted st ls [] [] out p
+    → Emitted st (ls ++ (padded s (withNames ns (behindPrefix s prefix g)) ∷ [])) [] [] out′ r
+
+-- lines `new` are added where of the fields `names` those from a place on, which hold ns, still wait: the first text takes them, and from the
+-- place that is answered on those wait that are left
+pub record Adds (out : List ℕ) (p : Added) (s : RenderOptions) (names : List ℕ) (ns : List (List ℕ)) (new : List RenderLine) (out′ : List ℕ) (r : Added) : Type 0 where
+  pub lines : (st : List ℕ) (ls : List RenderLine) → Emitted st ls [] [] out (p .lines) → Emitted st (ls ++ map (padded s) (namedLines ns new)) [] [] out′ (r .lines)
+  pub waiting : NamesOf (drop (r .from) names) (namesLeft ns new)
+
+-- lines, and the place where the names that still wait begin
+abbrev pub added : Lines → ℕ → Added
+added p from = record { lines = p; from = from }
 
 -- all pairs
-abbrev pub AddsGuest : List ℕ → Lines → RenderOptions → List ℕ → List ℕ → Bool → List ℕ → Lines → Type 0
-AddsGuest out p s guest prefixes rep out′ r =
-    (gs : List RenderLine) (ps : List (List ℕ)) → readAll readLine (raws guest) ≡ some gs → all readableLine gs ≡ true
+abbrev pub AddsGuest : List ℕ → Lines → RenderOptions → List ℕ → List ℕ → List ℕ → Bool → List ℕ → Added → Type 0
+AddsGuest out p s names guest prefixes rep out′ r =
+    (ns : List (List ℕ)) (gs : List RenderLine) (ps : List (List ℕ)) → NamesOf names ns → readAll readLine (raws guest) ≡ some gs → all readableLine gs ≡ true
     → readAll readPrefix (raws prefixes) ≡ some ps → all (readableText false) ps ≡ true → guestMisfit rep gs ps ≡ false
-    → (st : List ℕ) (ls : List RenderLine) → Emitted st ls [] out p → Emitted st (ls ++ map (padded s) (behindPrefixes s rep gs ps)) [] out′ r
+    → Adds out (added p 0) s names ns (behindPrefixes s rep gs ps) out′ r
 
 -- ---- cells
 
 -- a border of one segment
 abbrev pub AddsRule : List ℕ → Lines → RenderOptions → ℕ → List ℕ → Lines → Type 0
 AddsRule out p s segment out′ r =
-    (st : List ℕ) (ls : List RenderLine) → Emitted st ls [] out p
-    → Emitted st (ls ++ (padded s (plainBorder (s .annotation) (new-type (s .width) segment)) ∷ [])) [] out′ r
+    (st : List ℕ) (ls : List RenderLine) → Emitted st ls [] [] out p
+    → Emitted st (ls ++ (padded s (plainBorder (s .annotation) (new-type (s .width) segment)) ∷ [])) [] [] out′ r
 
 -- a border of one segment, or nothing where it is not drawn
 abbrev pub ruleIf : RenderOptions → ℕ → Bool → List RenderLine
@@ -96,16 +113,16 @@ ruleIf s segment drawn = if drawn then plainBorder (s .annotation) (new-type (s 
 -- the same, added
 abbrev pub AddsRuleIf : List ℕ → Lines → RenderOptions → ℕ → Bool → List ℕ → Lines → Type 0
 AddsRuleIf out p s segment drawn out′ r =
-    (st : List ℕ) (ls : List RenderLine) → Emitted st ls [] out p → Emitted st (ls ++ map (padded s) (ruleIf s segment drawn)) [] out′ r
+    (st : List ℕ) (ls : List RenderLine) → Emitted st ls [] [] out p → Emitted st (ls ++ map (padded s) (ruleIf s segment drawn)) [] [] out′ r
 
 -- the lines of one cell, with an empty prefix that repeats
-abbrev pub AddsCell : List ℕ → Lines → RenderOptions → List ℕ → List ℕ → Lines → Type 0
-AddsCell out p s body out′ r =
-    (gs : List RenderLine) → readAll readLine (raws body) ≡ some gs → all readableLine gs ≡ true → anyOverlapping gs ≡ false
-    → (st : List ℕ) (ls : List RenderLine) → Emitted st ls [] out p → Emitted st (ls ++ map (padded s) (behindPrefixes s true gs ([] ∷ []))) [] out′ r
+abbrev pub AddsCell : List ℕ → Added → RenderOptions → List ℕ → List ℕ → List ℕ → Added → Type 0
+AddsCell out p s names body out′ r =
+    (ns : List (List ℕ)) (gs : List RenderLine) → NamesOf (drop (p .from) names) ns → readAll readLine (raws body) ≡ some gs → all readableLine gs ≡ true
+    → anyOverlapping gs ≡ false → Adds out p s names ns (behindPrefixes s true gs ([] ∷ [])) out′ r
 
 -- all cells
-abbrev pub AddsCells : List ℕ → Lines → RenderOptions → List ℕ → List ℕ → Lines → Type 0
-AddsCells out p s cells out′ r =
-    (cs : List Cell) → readAll readPlainCell (raws cells) ≡ some cs → all readableCell cs ≡ true → cellsMisfit cs ≡ false
-    → (st : List ℕ) (ls : List RenderLine) → Emitted st ls [] out p → Emitted st (ls ++ map (padded s) (cellLines s true cs)) [] out′ r
+abbrev pub AddsCells : List ℕ → Lines → RenderOptions → List ℕ → List ℕ → List ℕ → Added → Type 0
+AddsCells out p s names cells out′ r =
+    (ns : List (List ℕ)) (cs : List Cell) → NamesOf names ns → readAll readPlainCell (raws cells) ≡ some cs → all readableCell cs ≡ true
+    → cellsMisfit cs ≡ false → Adds out (added p 0) s names ns (cellLines s true cs) out′ r

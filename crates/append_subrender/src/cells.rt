@@ -1,4 +1,5 @@
-// Cells below each other. What a function here requires, its callers in this crate show.
+// Cells below each other; the first line of theirs takes the names that wait, and no border between them. What a function here requires, its callers in this crate show.
+use crate::prefixed::Added;
 use crate::prefixed::add_prefixed;
 use borders::border::new_type;
 use extend_lines::line::Lines;
@@ -42,13 +43,20 @@ pub fn add_rule_if(
     lines
 }
 
-// The lines of a cell, each behind an empty prefix.
-fn add_cell(out: &mut [u8], lines: Lines, options: RenderOptions, body: &[u8]) -> Lines
-    requires { ⌜ InBounds lines × (3 * lines .count + length (now body) < 3000000) ⌝ }
-    ensures { λ r. ⌜ InBounds r × (3 * r .count ≤ 3 * lines .count + length (now (body .entry))) ⌝ }
-    ensures { λ r. ⌜ AddsCell (now (out .entry)) lines options (now (body .entry)) (now (out .exit)) r ⌝ }
+// The lines of a cell, each behind an empty prefix, of which the first takes the names that still wait.
+fn add_cell(
+    out: &mut [u8],
+    added: Added,
+    options: RenderOptions,
+    names: &[u8],
+    body: &[u8],
+) -> Added
+    requires { ⌜ InBounds (added .lines) × (added .from ≤ length (now names)) × (3 * added .lines .count + length (now body) < 3000000) ⌝ }
+    ensures { λ r. ⌜ InBounds (r .lines) × (r .from ≤ length (now (names .entry))) × (3 * r .lines .count ≤ 3 * added .lines .count + length (now (body .entry))) ⌝ }
+    ensures { λ r. ⌜ AddsCell (now (out .entry)) added options (now (names .entry)) (now (body .entry)) (now (out .exit)) r ⌝ }
 {
-    let mut next = lines;
+    let mut next = added.lines;
+    let mut from = added.from;
     let mut at: usize = 0;
     loop {
         let f = field_at(body, at);
@@ -62,30 +70,39 @@ fn add_cell(out: &mut [u8], lines: Lines, options: RenderOptions, body: &[u8]) -
                     out,
                     next,
                     options,
+                    &names[from..],
                     &body[start..start],
                     0,
                     letter,
                     &body[start..past],
                 );
+                from = names.len();
                 at = past;
             }
             Field::Broken => {
-                return next;
+                return Added { lines: next, from };
             }
             Field::End => {
-                return next;
+                return Added { lines: next, from };
             }
         }
     }
 }
 
 // Each cell, with a border of HorizVert before all but the first, if borders are on.
-pub fn add_cells(out: &mut [u8], lines: Lines, options: RenderOptions, cells: &[u8]) -> Lines
+pub fn add_cells(
+    out: &mut [u8],
+    lines: Lines,
+    options: RenderOptions,
+    names: &[u8],
+    cells: &[u8],
+) -> Added
     requires { ⌜ InBounds lines × (lines .count ≤ 65535) × (length (raws (now cells)) ≤ 16) ⌝ }
-    ensures { λ r. ⌜ InBounds r × (r .count < 1000000) ⌝ }
-    ensures { λ r. ⌜ AddsCells (now (out .entry)) lines options (now (cells .entry)) (now (out .exit)) r ⌝ }
+    ensures { λ r. ⌜ InBounds (r .lines) × (r .from ≤ length (now (names .entry))) × (r .lines .count < 1000000) ⌝ }
+    ensures { λ r. ⌜ AddsCells (now (out .entry)) lines options (now (names .entry)) (now (cells .entry)) (now (out .exit)) r ⌝ }
 {
     let mut next = lines;
+    let mut from: usize = 0;
     let mut between = false;
     let mut at: usize = 0;
     loop {
@@ -98,16 +115,19 @@ pub fn add_cells(out: &mut [u8], lines: Lines, options: RenderOptions, cells: &[
             } => {
                 next = add_rule_if(out, next, options, 5, between);
                 if start < past {
-                    next = add_cell(out, next, options, &cells[start + 1..past]);
+                    let so_far = Added { lines: next, from };
+                    let added = add_cell(out, so_far, options, names, &cells[start + 1..past]);
+                    next = added.lines;
+                    from = added.from;
                 }
                 between = options.borders;
                 at = past;
             }
             Field::Broken => {
-                return next;
+                return Added { lines: next, from };
             }
             Field::End => {
-                return next;
+                return Added { lines: next, from };
             }
         }
     }

@@ -1,5 +1,6 @@
-// `append_subrender` and `append_vert_row` (document 01, "Rows and blocks on a sheet", and request 2.1): a guest's lines behind their
-// prefixes, and cells below each other with borders between them. The cells that hang from the sheet are handed on, and the guest's dropped.
+// `append_subrender` and `append_vert_row` (document 01, "Rows and blocks on a sheet", and requests 2.1 and 2.2): a guest's lines behind
+// their prefixes, and cells below each other with borders between them. The first text that is added takes the names that wait on the sheet.
+// The names that still wait and the cells that hang from the sheet are handed on, and the guest's dropped.
 mod cells;
 mod misfit;
 mod prefixed;
@@ -10,7 +11,7 @@ use crate::misfit::cells_misfit;
 use crate::misfit::guest_misfit;
 use crate::prefixed::add_guest;
 use checks::cells::plain_cells_refusal;
-use checks::sheet::first_hanging;
+use checks::sheet::sheet_parts;
 use checks::sheet::sheet_refusal;
 use extend_lines::copy::copy_lines;
 use extend_lines::copy::hand_on;
@@ -44,15 +45,20 @@ pub fn append_subrender(
     if n != 0 {
         return refuse(n, store);
     }
-    let last = first_hanging(guest);
+    let theirs = sheet_parts(guest);
+    let last = theirs.names;
     let lines = &guest[5..last];
     if guest_misfit(lines, prefixes, repeats) {
         return refuse(10, store);
     }
-    let hung = first_hanging(sheet);
-    let old = copy_lines(store, no_lines(), &sheet[5..hung]);
-    let new = add_guest(store, old, options, lines, prefixes, repeats);
-    let all = hand_on(store, new, &sheet[hung..]);
+    let parts = sheet_parts(sheet);
+    let first = parts.names;
+    let hung = parts.hanging;
+    let old = copy_lines(store, no_lines(), &sheet[5..first]);
+    let names = &sheet[first..hung];
+    let new = add_guest(store, old, options, names, lines, prefixes, repeats);
+    let tail = first + new.from;
+    let all = hand_on(store, new.lines, &sheet[tail..]);
     close(all, store)
 }
 
@@ -74,10 +80,13 @@ pub fn append_vert_row(
     if cells_misfit(cells) {
         return refuse(10, store);
     }
-    let hung = first_hanging(sheet);
-    let old = copy_lines(store, no_lines(), &sheet[5..hung]);
-    let new = add_cells(store, old, options, cells);
-    let lines = add_rule_if(store, new, options, 0, options.borders);
-    let all = hand_on(store, lines, &sheet[hung..]);
+    let parts = sheet_parts(sheet);
+    let first = parts.names;
+    let hung = parts.hanging;
+    let old = copy_lines(store, no_lines(), &sheet[5..first]);
+    let new = add_cells(store, old, options, &sheet[first..hung], cells);
+    let lines = add_rule_if(store, new.lines, options, 0, options.borders);
+    let tail = first + new.from;
+    let all = hand_on(store, lines, &sheet[tail..]);
     close(all, store)
 }

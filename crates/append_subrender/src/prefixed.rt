@@ -1,13 +1,14 @@
-// A guest's lines behind their prefixes. What a function here requires, its callers in this crate show.
+// A guest's lines behind their prefixes, the first of them behind the names that wait. What a function here requires, its callers in this crate show.
 use extend_lines::line::Lines;
 use extend_lines::line::add_text_line;
+use extend_lines::line::begin_line;
+use extend_lines::line::too_long;
 use fields::field::Field;
 use fields::field::field_at;
 use fields::width::text_width;
 use holes::draw::push_holed;
 use places::border::border_parts;
 use rows::RenderOptions;
-use tagged_line::line::new_line;
 use tagged_line::line::push_str;
 use tagged_line::piece::add_pieces;
 ghost use mathlib.Core.Path.{_≡_};
@@ -25,12 +26,19 @@ pub struct Prefix {
     pub cols: usize,
 }
 
-// One line of the guest behind its prefix: the prefix joins the first piece where annotations are equal, and a border, with
-// holes or without, becomes text with the sheet's annotation.
+// The lines so far, and where the names that still wait begin: at the first name, or behind the last once a line took them.
+pub struct Added {
+    pub lines: Lines,
+    pub from: usize,
+}
+
+// One line of the guest behind the names that wait and its prefix: the prefix joins the first piece where annotations are equal,
+// behind names all pieces join, and a border, with holes or without, becomes text with the sheet's annotation.
 pub fn add_prefixed(
     out: &mut [u8],
     lines: Lines,
     options: RenderOptions,
+    names: &[u8],
     prefix: &[u8],
     cols: usize,
     letter: u8,
@@ -38,13 +46,17 @@ pub fn add_prefixed(
 ) -> Lines
     requires { ⌜ InBounds lines × (length (now prefix) < 65536) × (cols ≤ 131070) × (length (now content) < 65536) ⌝ }
     ensures { λ r. ⌜ OneLineMore lines r ⌝ }
-    ensures { λ r. ⌜ AddsPrefixed (now (out .entry)) lines options (now (prefix .entry)) cols letter (now (content .entry)) (now (out .exit)) r ⌝ }
+    ensures { λ r. ⌜ AddsPrefixed (now (out .entry)) lines options (now (names .entry)) (now (prefix .entry)) cols letter (now (content .entry)) (now (out .exit)) r ⌝ }
 {
+    if 65535 < names.len() {
+        return too_long(lines);
+    }
     let annotation = options.annotation;
-    let line = new_line(lines.at);
+    let line = begin_line(out, lines, names);
     let head = push_str(out, line, annotation, prefix, cols);
     if letter == b'L' {
-        let whole = add_pieces(out, head, content, true, false);
+        let waits = 0 < names.len();
+        let whole = add_pieces(out, head, content, true, waits);
         return add_text_line(out, lines, whole, options);
     }
     let parts = border_parts(letter, content);
@@ -91,20 +103,22 @@ fn next_prefix(prefixes: &[u8], prefix: Prefix, repeats: bool) -> Prefix
     }
 }
 
-// `zip`: lines and prefixes in pairs.
+// `zip`: lines and prefixes in pairs, of which the first takes the names that wait.
 pub fn add_guest(
     out: &mut [u8],
     lines: Lines,
     options: RenderOptions,
+    names: &[u8],
     guest: &[u8],
     prefixes: &[u8],
     repeats: bool,
-) -> Lines
+) -> Added
     requires { ⌜ InBounds lines × (lines .count + length (raws (now guest)) < 1000000) ⌝ }
-    ensures { λ r. ⌜ InBounds r × (r .count ≤ lines .count + length (raws (now (guest .entry)))) ⌝ }
-    ensures { λ r. ⌜ AddsGuest (now (out .entry)) lines options (now (guest .entry)) (now (prefixes .entry)) repeats (now (out .exit)) r ⌝ }
+    ensures { λ r. ⌜ InBounds (r .lines) × (r .from ≤ length (now (names .entry))) ⌝ }
+    ensures { λ r. ⌜ AddsGuest (now (out .entry)) lines options (now (names .entry)) (now (guest .entry)) (now (prefixes .entry)) repeats (now (out .exit)) r ⌝ }
 {
     let mut next = lines;
+    let mut from: usize = 0;
     let mut prefix = Prefix {
         found: false,
         from: 0,
@@ -115,7 +129,7 @@ pub fn add_guest(
     loop {
         prefix = next_prefix(prefixes, prefix, repeats);
         if !prefix.found {
-            return next;
+            return Added { lines: next, from };
         }
         let f = field_at(guest, at);
         match f {
@@ -124,24 +138,26 @@ pub fn add_guest(
                 start,
                 next: past,
             } => {
-                let from = prefix.from;
+                let first = prefix.from;
                 let to = prefix.to;
                 next = add_prefixed(
                     out,
                     next,
                     options,
-                    &prefixes[from..to],
+                    &names[from..],
+                    &prefixes[first..to],
                     prefix.cols,
                     letter,
                     &guest[start..past],
                 );
+                from = names.len();
                 at = past;
             }
             Field::Broken => {
-                return next;
+                return Added { lines: next, from };
             }
             Field::End => {
-                return next;
+                return Added { lines: next, from };
             }
         }
     }

@@ -10,18 +10,19 @@ use Rattle.characters.proofs.Tests.{not-true}
 use Rattle.fields.proofs.Fields.{FieldIs, field-is, field-broken, field-end}
 use Rattle.extend_lines.proofs.Copying.{content-short}
 use borrow.Author.Needs.{needs}
-use Rattle.append_subrender.proofs.Adding.{Walk, walk-start, walk-on, walk-few, walk-out, walk-end, walk-broken, prefix-size}
+use Rattle.append_subrender.proofs.Adding.{Walk, walk-start, walk-on, walk-out, walk-end, walk-broken, prefix-size}
 use Rattle.append_subrender.proofs.prefixed.add_guest.Statement.{statement}
 use Rattle.append_subrender.proofs.prefixed.add_guest.Tie as tie
 
 abbrev Inv-loop : tie.InvT-loop
-Inv-loop out₀ options guest prefixes repeats next₀ prefix₀ at₀ out next prefix at = Walk out₀ next₀ options guest prefixes repeats out next prefix at
+Inv-loop out₀ options names guest prefixes repeats next₀ from₀ prefix₀ at₀ out next from prefix at =
+    Walk out₀ next₀ options names guest prefixes repeats out next from prefix at
 
 abbrev μ-loop : tie.MeasureT-loop
-μ-loop out₀ options guest prefixes repeats next₀ prefix₀ at₀ out next prefix at = length guest - at
+μ-loop out₀ options names guest prefixes repeats next₀ from₀ prefix₀ at₀ out next from prefix at = length guest - at
 
 loop-holds : tie.Need-loop-holds Inv-loop μ-loop
-loop-holds c = walk-start _ _ _ _ _ _ (c .before .before .before .pre .0)
+loop-holds c = walk-start _ _ _ _ _ _ _ (c .before .before .before .before .pre .0)
 
 next-prefix-requires : tie.Need-next-prefix-requires Inv-loop μ-loop
 next-prefix-requires c κs = c .loop .inv .placed
@@ -33,7 +34,7 @@ returns : tie.Need-returns Inv-loop μ-loop
 returns c =
     let w = c .before .before .before .loop .inv in
     let lost = not-true (c .before .before .next-prefix .result .found) (c .if1 .taken) in
-    ((w .bounds, walk-few _ _ _ _ _ _ _ _ _ _ w), walk-out _ _ _ _ _ _ _ _ _ _ w (c .before .before .next-prefix .result) (c .before .before .next-prefix .ensures .1) lost)
+    ((w .bounds, w .waiting), walk-out _ _ _ _ _ _ _ _ _ _ _ _ w (c .before .before .next-prefix .result) (c .before .before .next-prefix .ensures .1) lost)
 
 field-at-requires : tie.Need-field-at-requires Inv-loop μ-loop
 field-at-requires c κs = search needs
@@ -43,41 +44,50 @@ enum-known-f c = search needs
 
 -- the field that a turn passes
 found : (c : tie.After-known-told Inv-loop μ-loop)
-    → FieldIs (now (c .before .before .before .before .before .before .before .before .before .before .before .args .guest)) (c .before .before .before .before .before .before .before .loop .at) (c .before .f .given .0 .0) (c .before .f .given .0 .1 .0) (c .before .f .given .0 .1 .1 .0)
+    → FieldIs (now (c .before .before .before .before .before .before .before .before .before .before .before .before .args .guest)) (c .before .before .before .before .before .before .before .loop .at) (c .before .f .given .0 .0) (c .before .f .given .0 .1 .0) (c .before .f .given .0 .1 .1 .0)
 found c = field-is _ _ _ _ _ (c .before .before .before .before .before .before .before .loop .inv .inside) (sym (c .before .before .before .field-at .ensures .0) ∙ c .before .f .given .1)
 
 sub-add-prefixed : tie.Need-sub-add-prefixed Inv-loop μ-loop
-sub-add-prefixed c = c .before .before .before .before .before .before .before .next-prefix .ensures .0 .order
+sub-add-prefixed c = c .before .before .before .before .before .before .before .before .loop .inv .waiting
 
 part-add-prefixed-start : tie.Need-part-add-prefixed-start Inv-loop μ-loop
-part-add-prefixed-start c = let k = c .before .before .before .before .before .before .before .next-prefix .ensures .0 in omega (arith, k .order, k .inside)
+part-add-prefixed-start c = let w = c .before .before .before .before .before .before .before .before .loop .inv in omega (arith, w .waiting)
 
 part-add-prefixed-end : tie.Need-part-add-prefixed-end Inv-loop μ-loop
-part-add-prefixed-end c = let k = c .before .before .before .before .before .before .before .next-prefix .ensures .0 in omega (arith, k .order, k .inside)
+part-add-prefixed-end c = search needs
 
 sub-add-prefixed-2 : tie.Need-sub-add-prefixed-2 Inv-loop μ-loop
-sub-add-prefixed-2 c = found (c .before .before) .order
+sub-add-prefixed-2 c = c .before .before .before .before .before .before .before .before .next-prefix .ensures .0 .order
 
 part-add-prefixed-start-2 : tie.Need-part-add-prefixed-start-2 Inv-loop μ-loop
-part-add-prefixed-start-2 c = let r = found (c .before .before) in omega (arith, r .order, r .inside)
+part-add-prefixed-start-2 c = let k = c .before .before .before .before .before .before .before .before .next-prefix .ensures .0 in omega (arith, k .order, k .inside)
 
 part-add-prefixed-end-2 : tie.Need-part-add-prefixed-end-2 Inv-loop μ-loop
-part-add-prefixed-end-2 c = let r = found (c .before .before) in omega (arith, r .order, r .inside)
+part-add-prefixed-end-2 c = let k = c .before .before .before .before .before .before .before .before .next-prefix .ensures .0 in omega (arith, k .order, k .inside)
+
+sub-add-prefixed-3 : tie.Need-sub-add-prefixed-3 Inv-loop μ-loop
+sub-add-prefixed-3 c = found (c .before .before .before) .order
+
+part-add-prefixed-start-3 : tie.Need-part-add-prefixed-start-3 Inv-loop μ-loop
+part-add-prefixed-start-3 c = let r = found (c .before .before .before) in omega (arith, r .order, r .inside)
+
+part-add-prefixed-end-3 : tie.Need-part-add-prefixed-end-3 Inv-loop μ-loop
+part-add-prefixed-end-3 c = let r = found (c .before .before .before) in omega (arith, r .order, r .inside)
 
 add-prefixed-requires : tie.Need-add-prefixed-requires Inv-loop μ-loop
 add-prefixed-requires c κs =
-    let k = c .before .before .before .before .before .before .before .before .before .next-prefix .ensures .0 in
-    (c .before .before .before .before .before .before .before .before .before .before .loop .inv .bounds, prefix-size _ _ k, k .cols, content-short _ _ _ _ _ _ (found (c .before .before .before)) (c .before .before .before .before .f .given .1) (c .before .before .before .before .before .before .field-at .ensures .1))
+    let k = c .before .before .before .before .before .before .before .before .before .before .next-prefix .ensures .0 in
+    (c .before .before .before .before .before .before .before .before .before .before .before .loop .inv .bounds, prefix-size _ _ k, k .cols, content-short _ _ _ _ _ _ (found (c .before .before .before .before)) (c .before .before .before .before .before .f .given .1) (c .before .before .before .before .before .before .before .field-at .ensures .1))
 
 loop-less : tie.Need-loop-less Inv-loop μ-loop
-loop-less c = let r = found (c .before .before .before .before .before .before) in omega (arith, r .begins, r .order, r .inside)
+loop-less c = let r = found (c .before .before .before .before .before .before .before) in omega (arith, r .begins, r .order, r .inside)
 
 loop-again : tie.Need-loop-again Inv-loop μ-loop
 loop-again c =
     let one = c .before .before .add-prefixed .ensures in
-    let k = c .before .before .before .before .before .before .before .before .before .before .before .before .next-prefix .ensures in
-    let there = not-false (c .before .before .before .before .before .before .before .before .before .before .before .before .next-prefix .result .found) (c .before .before .before .before .before .before .before .before .before .before .if1 .left) in
-    walk-on _ _ _ _ _ _ _ _ _ _ (c .before .before .before .before .before .before .before .before .before .before .before .before .before .loop .inv) _ _ _ _ _ (c .before .before .before .before .before .before .before .before .before .before .before .before .next-prefix .result) (c .before .before .before .before .before .before .before .before .before .before .before .before .before .before .before .before .before .pre .1) (found (c .before .before .before .before .before .before)) (k .0) (k .1) there (one .0) (search needs) (one .1)
+    let k = c .before .before .before .before .before .before .before .before .before .before .before .before .before .next-prefix .ensures in
+    let there = not-false (c .before .before .before .before .before .before .before .before .before .before .before .before .before .next-prefix .result .found) (c .before .before .before .before .before .before .before .before .before .before .before .if1 .left) in
+    walk-on _ _ _ _ _ _ _ _ _ _ _ _ (c .before .before .before .before .before .before .before .before .before .before .before .before .before .before .loop .inv) _ _ _ _ _ (c .before .before .before .before .before .before .before .before .before .before .before .before .before .next-prefix .result) (c .before .before .before .before .before .before .before .before .before .before .before .before .before .before .before .before .before .before .before .pre .1) (found (c .before .before .before .before .before .before .before)) (k .0) (k .1) there (one .0) (search needs) (one .1)
 
 enum-told : tie.Need-enum-told Inv-loop μ-loop
 enum-told c = search needs
@@ -89,7 +99,7 @@ returns-2 : tie.Need-returns-2 Inv-loop μ-loop
 returns-2 c =
     let w = c .before .before .before .before .before .before .loop .inv in
     let is = field-broken _ _ (sym (c .before .before .field-at .ensures .0) ∙ c .enum-told .given .1) in
-    ((w .bounds, walk-few _ _ _ _ _ _ _ _ _ _ w), walk-broken _ _ _ _ _ _ _ _ _ _ w is)
+    ((w .bounds, w .waiting), walk-broken _ _ _ _ _ _ _ _ _ _ _ _ w is)
 
 enum-told-2 : tie.Need-enum-told-2 Inv-loop μ-loop
 enum-told-2 c = search needs
@@ -101,7 +111,7 @@ returns-3 : tie.Need-returns-3 Inv-loop μ-loop
 returns-3 c =
     let w = c .before .before .before .before .before .before .loop .inv in
     let is = field-end _ _ (sym (c .before .before .field-at .ensures .0) ∙ c .enum-told2 .given .1) in
-    ((w .bounds, walk-few _ _ _ _ _ _ _ _ _ _ w), walk-end _ _ _ _ _ _ _ _ _ _ w is)
+    ((w .bounds, w .waiting), walk-end _ _ _ _ _ _ _ _ _ _ _ _ w is)
 
 pub add-guest-spec : {M : Type 1} → statement M
 add-guest-spec =
@@ -121,6 +131,9 @@ add-guest-spec =
     sub-add-prefixed-2
     part-add-prefixed-start-2
     part-add-prefixed-end-2
+    sub-add-prefixed-3
+    part-add-prefixed-start-3
+    part-add-prefixed-end-3
     add-prefixed-requires
     loop-less
     loop-again
