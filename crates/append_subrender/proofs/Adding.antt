@@ -322,4 +322,6 @@ module _ (out₀ : List ℕ) (p : Lines) (s : RenderOptions) (names guest prefix
 
 -- the size of a prefix
 pub prefix-size : (s : List ℕ) (p : Prefix) → Placed s p → length (take (p .to - p .from) (drop (p .from) s)) < 65536
-prefix-size s p k = omega (arith, k .order, k .size, k .inside, length-drop (p .from) s, length-take-le (p .to - p .from) (drop (p .from) s) (omega (arith, k .order, k .inside, length-drop (p .from) s)))
+prefix-size s p k =
+    let n = length-take-le (p .to - p .from) (drop (p .from) s) (omega (arith, k .order, k .inside, length-drop (p .from) s)) in
+    omega (arith, k .order, k .size, k .inside, length-drop (p .from) s, n)

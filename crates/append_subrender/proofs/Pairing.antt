@@ -19,7 +19,8 @@ use Rattle.fields.proofs.Fields.{FieldIs}
 use Rattle.borders.specs.BorderSegHoriz.{Horiz}
 use Rattle.borders.specs.BorderHoriz.{new-type, to-string, _>>=_, as-str, sliceable, to-string-from, holed-to-string}
 use Rattle.fields.specs.TaggedLine.{push-str}
-use Rattle.rows.specs.SubRenderer.{Extended, extended, later, withNames, padded, add-line, extend-lines, plainBorder, withPrefix, prefixed, append-subrender, ifDrawn, between, appendEach, append-vert-row}
+use Rattle.rows.specs.SubRenderer.{Extended, extended, later, withNames, padded, add-line, extend-lines}
+use Rattle.rows.specs.SubRenderer.{plainBorder, withPrefix, prefixed, append-subrender, ifDrawn, between, appendEach, append-vert-row}
 use Rattle.rows.specs.declared.RenderOptions.{RenderOptions}
 use Rattle.rows.specs.Named.{namedLines, namesLeft}
 use Rattle.rows.proofs.Lines.{readable-formed}

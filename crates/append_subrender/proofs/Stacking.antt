@@ -88,7 +88,8 @@ module _ (out : List ℕ) (p : Added) (s : RenderOptions) (names body : List ℕ
       let new = behindPrefix s [] (x .one) in
       let a₁ =
       adds-line out p s names ns mid m [] (x .one)
-      (line ns (x .one) reads (x .first) (and-left (readableLine (x .one)) (all readableLine (x .more)) good) (or-left (overlapping (x .one)) (anyOverlapping (x .more)) fit) well-formed-nil text-width-nil) in
+      (line ns (x .one) reads (x .first) (and-left (readableLine (x .one)) (all readableLine (x .more)) good) (or-left (overlapping (x .one)) (anyOverlapping (x .more)) fit)
+      well-formed-nil text-width-nil) in
       let a₂ =
       others (namesLeft ns (new ∷ [])) (x .more) (a₁ .waiting) (x .later) (and-right (readableLine (x .one)) (all readableLine (x .more)) good)
       (or-right (overlapping (x .one)) (anyOverlapping (x .more)) fit) in

@@ -81,8 +81,8 @@ AddsPrefixed out p s names prefix cols letter content out′ r =
     → (st : List ℕ) (ls : List RenderLine) → Emitted st ls [] [] out p
     → Emitted st (ls ++ (padded s (withNames ns (behindPrefix s prefix g)) ∷ [])) [] [] out′ r
 
--- lines `new` are added where of the fields `names` those from a place on, which hold ns, still wait: the first text takes them, and from the
--- place that is answered on those wait that are left
+-- new lines are added while the names ns wait, which are those of the F fields `names` from the place of p on: the first text takes them, and
+-- those that are left stand from the place of r on
 pub record Adds (out : List ℕ) (p : Added) (s : RenderOptions) (names : List ℕ) (ns : List (List ℕ)) (new : List RenderLine) (out′ : List ℕ) (r : Added) : Type 0 where
   pub lines : (st : List ℕ) (ls : List RenderLine) → Emitted st ls [] [] out (p .lines) → Emitted st (ls ++ map (padded s) (namedLines ns new)) [] [] out′ (r .lines)
   pub waiting : NamesOf (drop (r .from) names) (namesLeft ns new)

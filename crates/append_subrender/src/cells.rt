@@ -1,4 +1,5 @@
-// Cells below each other; the first line of theirs takes the names that wait, and no border between them. What a function here requires, its callers in this crate show.
+// Cells below each other: the first line of a cell takes the names that wait, and a border between cells does not. What a function here
+// requires, its callers in this crate show.
 use crate::prefixed::Added;
 use crate::prefixed::add_prefixed;
 use borders::border::new_type;

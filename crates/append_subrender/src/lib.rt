@@ -1,6 +1,6 @@
 // `append_subrender` and `append_vert_row` (document 01, "Rows and blocks on a sheet", and requests 2.1 and 2.2): a guest's lines behind
 // their prefixes, and cells below each other with borders between them. The first text that is added takes the names that wait on the sheet.
-// The names that still wait and the cells that hang from the sheet are handed on, and the guest's dropped.
+// The names that still wait on the sheet and the cells that hang from it are handed on, and those of the guest are dropped.
 mod cells;
 mod misfit;
 mod prefixed;
@@ -84,9 +84,9 @@ pub fn append_vert_row(
     let first = parts.names;
     let hung = parts.hanging;
     let old = copy_lines(store, no_lines(), &sheet[5..first]);
-    let new = add_cells(store, old, options, &sheet[first..hung], cells);
-    let lines = add_rule_if(store, new.lines, options, 0, options.borders);
-    let tail = first + new.from;
+    let stacked = add_cells(store, old, options, &sheet[first..hung], cells);
+    let lines = add_rule_if(store, stacked.lines, options, 0, options.borders);
+    let tail = first + stacked.from;
     let all = hand_on(store, lines, &sheet[tail..]);
     close(all, store)
 }

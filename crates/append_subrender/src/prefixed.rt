@@ -1,4 +1,5 @@
-// A guest's lines behind their prefixes, the first of them behind the names that wait. What a function here requires, its callers in this crate show.
+// A guest's lines behind their prefixes, the first of them behind the names that wait. What a function here requires, its callers in
+// this crate show.
 use extend_lines::line::Lines;
 use extend_lines::line::add_text_line;
 use extend_lines::line::begin_line;

@@ -68,13 +68,13 @@ guest-at : (c : tie.After-sheet-parts) → SheetAt (now (c .before .before .befo
 guest-at c = c .sheet-parts .ensures .1 (passes c .guest) (passes c .reads-guest)
 
 sub-lines : tie.Need-sub-lines
-sub-lines c = guest-at c .lines .order
+sub-lines c = let g = guest-at c in omega (arith, g .lines .order, g .names .order)
 
 part-lines-start : tie.Need-part-lines-start
-part-lines-start c = let g = guest-at c .lines in omega (arith, g .order, g .inside)
+part-lines-start c = let g = guest-at c in omega (arith, g .lines .order, g .names .order, g .names .inside)
 
 part-lines-end : tie.Need-part-lines-end
-part-lines-end c = let g = guest-at c .lines in omega (arith, g .order, g .inside)
+part-lines-end c = let g = guest-at c in omega (arith, g .lines .order, g .names .order, g .names .inside)
 
 guest-misfit-requires : tie.Need-guest-misfit-requires
 guest-misfit-requires c κs = search needs
@@ -126,7 +126,7 @@ add-guest-requires c κs =
     let copied = c .before .before .before .before .copy-lines .ensures .0 in
     (copied .0, omega (arith, copied .1, none-bounds _ (c .before .before .before .before .before .before .no-lines .ensures) .1, old-at (c .before .before .before .before .before .before .before .before) .few, guest-at (c .before .before .before .before .before .before .before .before .before .before .before .before) .few))
 
--- the tail begins in the old sheet
+-- what is handed on begins in the old sheet
 tail : (c : tie.After-add-guest) → c .before .before .before .before .before .before .before .before .before .sheet-parts2 .result .names + c .add-guest .result .from ≤ length (now (c .before .before .before .before .before .before .before .before .before .before .before .before .before .before .before .before .before .before .before .before .before .before .before .before .before .before .args .sheet))
 tail c = tail-inside _ (c .before .before .before .before .before .before .before .before .before .sheet-parts2 .result) _ (c .before .before .before .before .before .before .before .before .before .sheet-parts2 .ensures .0) (c .add-guest .ensures .0 .1)
 
@@ -134,10 +134,16 @@ add-tail : tie.Need-add-tail
 add-tail c = omega (arith, tail (c .before .before .before), c .before .before .before .before .before .before .before .before .before .before .before .before .before .before .before .before .before .before .before .before .before .before .before .before .before .before .before .before .before .good .1 .0 .0)
 
 sub-hand-on : tie.Need-sub-hand-on
-sub-hand-on c = tail (c .before .before .before .before)
+sub-hand-on c =
+    let o = old-at (c .before .before .before .before .before .before .before .before .before .before .before .before .before) .names in
+    let g = guest-at (c .before .before .before .before .before .before .before .before .before .before .before .before .before .before .before .before .before) .names in
+    omega (arith, tail (c .before .before .before .before), o .order, o .inside, g .order, g .inside)
 
 part-hand-on-start : tie.Need-part-hand-on-start
-part-hand-on-start c = omega (arith, tail (c .before .before .before .before))
+part-hand-on-start c =
+    let o = old-at (c .before .before .before .before .before .before .before .before .before .before .before .before .before) .names in
+    let g = guest-at (c .before .before .before .before .before .before .before .before .before .before .before .before .before .before .before .before .before) .names in
+    omega (arith, tail (c .before .before .before .before), o .order, o .inside, g .order, g .inside)
 
 part-hand-on-end : tie.Need-part-hand-on-end
 part-hand-on-end c = search needs

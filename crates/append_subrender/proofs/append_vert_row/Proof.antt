@@ -102,7 +102,7 @@ add-cells-requires c κs =
 add-rule-if-requires : tie.Need-add-rule-if-requires
 add-rule-if-requires c κs = let new = c .before .before .before .add-cells .ensures .0 in (new .0, new .2)
 
--- the tail begins in the old sheet
+-- what is handed on begins in the old sheet
 tail : (c : tie.After-add-cells) → c .before .before .before .before .before .before .before .before .before .sheet-parts .result .names + c .add-cells .result .from ≤ length (now (c .before .before .before .before .before .before .before .before .before .before .before .before .before .before .before .before .before .before .before .before .before .args .sheet))
 tail c = tail-inside _ (c .before .before .before .before .before .before .before .before .before .sheet-parts .result) _ (c .before .before .before .before .before .before .before .before .before .sheet-parts .ensures .0) (c .add-cells .ensures .0 .1)
 
@@ -110,10 +110,10 @@ add-tail : tie.Need-add-tail
 add-tail c = omega (arith, tail (c .before .before .before .before .before .before .before), c .before .before .before .before .before .before .before .before .before .before .before .before .before .before .before .before .before .before .before .before .before .before .before .before .before .before .before .before .good .1 .0 .0)
 
 sub-hand-on : tie.Need-sub-hand-on
-sub-hand-on c = tail (c .before .before .before .before .before .before .before .before)
+sub-hand-on c = let o = old-at (c .before .before .before .before .before .before .before .before .before .before .before .before .before .before .before .before .before) .names in omega (arith, tail (c .before .before .before .before .before .before .before .before), o .order, o .inside)
 
 part-hand-on-start : tie.Need-part-hand-on-start
-part-hand-on-start c = omega (arith, tail (c .before .before .before .before .before .before .before .before))
+part-hand-on-start c = let o = old-at (c .before .before .before .before .before .before .before .before .before .before .before .before .before .before .before .before .before) .names in omega (arith, tail (c .before .before .before .before .before .before .before .before), o .order, o .inside)
 
 part-hand-on-end : tie.Need-part-hand-on-end
 part-hand-on-end c = search needs
