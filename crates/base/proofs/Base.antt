@@ -11,7 +11,7 @@ use lib.Dec.{leb, ltb, eqb}
 use lib.ListN.{length, replicate, drop, length-map}
 use borrow.Author.Tests.{le-leb, not-true}
 use Rattle.characters.specs.If.{if_then_else_}
-use Rattle.characters.proofs.Tests.{and-left, and-right}
+use Rattle.characters.proofs.Tests.{by-if, and-left, and-right}
 use Rattle.fields.specs.Field.{field, Raw, whole, broken, raws, both, readAll, all}
 use Rattle.fields.specs.Text.{readableText}
 use Rattle.fields.specs.Sheet.{Piece, readPiece, isSegment, upTo16, readPrefixes}
@@ -27,7 +27,7 @@ use Rattle.base.specs.SubRenderer.{padded as base-padded, add-line as ba
 use Rattle.base.specs.Answer.{Verdict as BaseVerdict, refused as base-refused, sheet as base-sheet, give as base-give, hasWidth as base-wide, fits as base-fits, finished as base-finished, subrenderVerdict as base-subrenderVerdict, columnsVerdict as base-columnsVerdict, vertRowVerdict as base-vertRowVerdict, subrenderAnswer as base-subrenderAnswer, columnsAnswer as base-columnsAnswer, vertRowAnswer as base-vertRowAnswer}
 use Rattle.fields.specs.Spans.{RenderLine, text, border, cell, readBorder, readLine, isHanging, beforeHanging, fromHanging, isName, beforeNames, fromNames, parts, counted, readHeaded, readSheet, readCellContent, readCell, readCells, readPlainCell, readPlainCells, wide, readableLine, readableLines, readableNames, readableSheet, readableCell, content, letter, linesBytes, overhangBytes, namesBytes, sheetBytes}
 use Rattle.rows.specs.Answer.{fits, finished, subrenderVerdict, columnsVerdict, vertRowVerdict, subrenderAnswer, columnsAnswer, vertRowAnswer}
-use Rattle.base.specs.Base.{asLine, asSheet, asCell, asVerdict, notHoled, notHanging, notName, baseSheet, baseCell, baseCells}
+use Rattle.base.specs.Base.{asLine, asSheet, asCell, asVerdict, notHoled, notHanging, notName, baseSheet, baseCell, baseCells, readUnwaited}
 
 -- ---- options, choices and lists
 
@@ -155,6 +155,26 @@ headed-base (whole l t ∷ rs) e k m =
     let m′ = and-right (notName (whole l t)) (all notName rs) m in
     pick-only asSheet (eqb l 0x48) _ _
     (rw (before-all rs k′, from-none rs k′, before-unnamed rs m′, from-unnamed rs m′, lines-base rs e′) (counted-base t (readAll base-readLine rs)))
+
+before-still : (rs : List Raw) → all notName rs ≡ true → all notName (beforeHanging rs) ≡ true
+unfolding beforeHanging all
+before-still [] e = refl
+before-still (r ∷ rs) e =
+    by-if (λ (l : List Raw). all notName l ≡ true) (isHanging r) (λ _. refl)
+    (λ _. rw (and-left (notName r) (all notName rs) e) (before-still rs (and-right (notName r) (all notName rs) e)))
+
+unwaited-headed : (rs : List Raw) → all notName rs ≡ true → readHeaded rs ≡ readUnwaited rs
+unfolding readHeaded readUnwaited readAll all
+unwaited-headed [] e = refl
+unwaited-headed (broken ∷ rs) e = refl
+unwaited-headed (whole l t ∷ rs) e =
+    let k = before-still rs (and-right (notName (whole l t)) (all notName rs) e) in
+    rw (before-unnamed (beforeHanging rs) k, from-unnamed (beforeHanging rs) k)
+
+-- A SHEET WITHOUT F FIELDS OF ITS OWN, good or broken, IS READ AS REQUEST 2.1 READS IT: only F fields after the last line left refusal 1.
+pub sheet-unwaited : (bs : List ℕ) → all notName (raws bs) ≡ true → readSheet bs ≡ readUnwaited (raws bs)
+unfolding readSheet
+sheet-unwaited bs e = unwaited-headed (raws bs) e
 
 -- THE SHEET IS THE BASE'S.
 pub sheet-base : (bs : List ℕ) → baseSheet bs ≡ true → readSheet bs ≡ Option·map asSheet (base-readSheet bs)

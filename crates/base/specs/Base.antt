@@ -1,14 +1,17 @@
--- Document 01's sheets and cells among those of requests 2.1 and 2.2, and inputs that have none of the requests' fields.
+-- Document 01's sheets and cells among those of requests 2.1 and 2.2, inputs that have none of the requests' fields, and how request 2.1
+-- read a sheet.
 -- Assumes nothing: these are definitions.
 use mathlib.Core.Bool.{Bool, true, not, _&&_}
-use mathlib.Core.List.{List, [], map}
+use mathlib.Core.Option.{Option, none, some}
+use mathlib.Core.List.{List, [], _∷_, map}
 use Prim.Native.Nat.{ℕ}
 use lib.Dec.{eqb}
 use lib.ListN.{drop}
-use Rattle.fields.specs.Field.{Raw, whole, broken, raws, all}
+use Rattle.characters.specs.If.{if_then_else_}
+use Rattle.fields.specs.Field.{Raw, whole, broken, raws, readAll, all}
 use Rattle.base.specs.Sheet.{RenderLine as BaseLine, text as base-text, border as base-border, Cell as BaseCell}
 use Rattle.fields.specs.Answer.{Verdict, refused, sheet}
-use Rattle.fields.specs.Spans.{RenderLine, text, border, Sheet, sheetOf, Cell, cell}
+use Rattle.fields.specs.Spans.{RenderLine, text, border, Sheet, sheetOf, Cell, cell, readLine, readHanging, beforeHanging, fromHanging, parts, counted}
 use Rattle.base.specs.Answer.{Verdict as BaseVerdict, refused as base-refused, sheet as base-sheet}
 
 -- a line without holes
@@ -58,3 +61,12 @@ baseCell (whole l content) = not (eqb l 0x4B) && all notHoled (raws (drop 1 cont
 -- cells without K and G fields, good or broken
 abbrev pub baseCells : List ℕ → Bool
 baseCells bs = all baseCell (raws bs)
+
+-- ---- request 2.1's sheets
+
+-- the H field first, then lines, then V fields; no name waits
+unfoldable pub readUnwaited : List Raw → Option Sheet
+readUnwaited [] = none
+readUnwaited (broken ∷ rs) = none
+readUnwaited (whole l content ∷ rs) =
+    if eqb l 0x48 then counted content (parts (readAll readLine (beforeHanging rs)) (some []) (readAll readHanging (fromHanging rs))) else none
