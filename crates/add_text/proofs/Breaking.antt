@@ -20,7 +20,7 @@ use Rattle.flush_word.specs.Keep.{Keeps, CountsWithinUnits, BuffersLongEnough, 
 use Rattle.flush_word.specs.declared.state.State.{State}
 use Rattle.flush_word.specs.declared.state.Flushed.{Flushed}
 use Rattle.flush_word.specs.declared.state.Flushed.the-variants.{Done, Narrow}
-use Rattle.add_text.specs.Chars.{Newlines, Tabbing, Collapses}
+use Rattle.add_chars.specs.Chars.{Newlines, Tabbing, Collapses}
 use Rattle.add_text.specs.Walks.{WalkedSmall, NextWalk, AddsNewline, AddsTab, AddsCollapsed, BreaksWord}
 use Rattle.add_text.specs.declared.text.Run.{Run}
 use Rattle.add_text.specs.declared.walk.Walk.{Walk}

@@ -1,5 +1,3 @@
-pub mod Wording
-pub mod Stopping
 pub mod Breaking
 pub mod WordChars
 pub mod Walking

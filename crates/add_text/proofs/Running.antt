@@ -32,14 +32,14 @@ use Rattle.lines.specs.Bridge.{modeNo, num, text}
 use Rattle.hard_wrap.specs.Hold.{setup}
 use Rattle.hard_wrap.specs.declared.line.Frame.{Frame}
 use Rattle.flush_word.specs.declared.state.State.{State}
-use Rattle.add_text.specs.Chars.{AmongUnits, PushesChars}
+use Rattle.add_chars.specs.Chars.{AmongUnits, PushesChars}
 use Rattle.add_text.specs.Runs.{Keeping, Wrapping, Takes, AddsPlain}
 use Rattle.add_text.specs.declared.text.Run.{Run}
 use Rattle.add_text.specs.declared.walk.Walk.{Walk}
 use Rattle.add_text.specs.declared.runs.Take.{Take}
 use Rattle.add_text.specs.declared.runs.Past.{Past}
 use Rattle.add_text.proofs.Breaking.{walkOf, tag-is}
-use Rattle.add_text.proofs.Wording.{keeps-same}
+use Rattle.add_chars.proofs.Wording.{keeps-same}
 use Rattle.add_text.proofs.WordChars.{not-pre, is-pre, far, word-char-on, word-char-wraps}
 use Rattle.add_text.proofs.Walking.{step-on, char-word-char, steps-on}
 

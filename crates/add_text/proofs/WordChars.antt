@@ -27,12 +27,12 @@ use Rattle.hard_wrap.specs.declared.line.Frame.{Frame}
 use Rattle.flush_word.specs.Keep.{Keeps, CountsWithinUnits}
 use Rattle.flush_word.specs.declared.state.State.{State}
 use Rattle.flush_word.proofs.Flushing.{holds-lines}
-use Rattle.add_text.specs.Chars.{AmongUnits, PushesWord, KeepsBlank}
+use Rattle.add_chars.specs.Chars.{AmongUnits, PushesWord, KeepsBlank}
 use Rattle.add_text.specs.Walks.{Ready, WalkedSmall, wrappedOn, CharIs, WalkKeeps, AddsKept, AddsWordChar}
 use Rattle.add_text.specs.declared.text.Run.{Run}
 use Rattle.add_text.specs.declared.walk.Walk.{Walk}
 use Rattle.add_text.proofs.Breaking.{walkOf, tag-is}
-use Rattle.add_text.proofs.Wording.{cols-bytes, white-positive}
+use Rattle.add_chars.proofs.Wording.{cols-bytes, white-positive}
 
 -- ---- columns
 

@@ -11,7 +11,7 @@ use Rattle.characters.specs.Whitespace.{alwaysTakesSpace}
 use Rattle.characters.specs.Utf8.{utf8, Scalar, chars}
 use Rattle.fields.specs.Job.{Mode, normal, pre, preWrap}
 use Rattle.block.specs.Result.{Result, good, tooNarrow, _>>=_}
-use Rattle.block.specs.Flat.{Block, walk, flushWord, newline, tab, keepBlank, collapse, addBlank, addWordChar, addChar, breakWord, step, addText, addElement}
+use Rattle.block.specs.Flat.{Block, walk, flushWord, newline, tab, keepBlank, collapse, addBlank, addWordChar, addChar, breakWord, step, addText}
 use Rattle.block.specs.Flat as flat
 use Rattle.block.specs.Tag.{tag}
 use Rattle.lines.specs.Bridge.{modeNo}
@@ -158,9 +158,3 @@ abbrev pub AddsText : Frame → Run → State → List ℕ → List ℕ → List
 AddsText frame run st text lb lt wb wt out r lb′ lt′ wb′ wt′ out′ =
     (d₀ : List ℕ) (base : ℕ) (b : Block) (m : Mode) (main wrap : ℕ) (cs : List ℕ) → Keeps d₀ base b st lb lt wb wt out → RunIs run m main wrap
     → chars text ≡ some cs → ResultIs (addText (setup frame) m main wrap cs b) d₀ base r lb′ lt′ wb′ wt′ out′
-
--- `add_element`
-abbrev pub AddsElement : State → List ℕ → List ℕ → List ℕ → State → List ℕ → List ℕ → Type 0
-AddsElement st name wb wt r wb′ wt′ =
-    (d₀ : List ℕ) (base : ℕ) (b : Block) (lb lt out : List ℕ) → Keeps d₀ base b st lb lt wb wt out
-    → Keeps d₀ base (addElement name b) r lb lt wb′ wt′ out

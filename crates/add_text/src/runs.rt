@@ -1,9 +1,9 @@
 // A run of plain characters goes to the word at once: none of them ends a word, and in Pre it is taken up to the width with
 // the annotation in use, and past the width with the continued one.
-use crate::chars::push_chars;
 use crate::text::Run;
 use crate::walk::Walk;
 use crate::walk::tag_of;
+use add_chars::chars::push_chars;
 use characters::plain::plain_run;
 use hard_wrap::line::Frame;
 use hard_wrap::numbers::least;

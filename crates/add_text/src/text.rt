@@ -7,18 +7,13 @@ use characters::utf8::Decoded;
 use characters::utf8::decode;
 use flush_word::state::Flushed;
 use flush_word::state::State;
-use flush_word::state::Word;
 use hard_wrap::line::Frame;
-use lines::buffer::push_byte;
-use lines::buffer::push_text;
-use lines::encode::MARK;
-use lines::encode::NAME;
 ghost use mathlib.Core.Path.{_≡_};
 ghost use Prim.Native.Nat.{_+_, _<_, _≤_};
 ghost use lib.ListN.{length};
 ghost use Rattle.characters.specs.If.{if_then_else_};
 ghost use Rattle.flush_word.specs.Keep.{CountsWithinUnits, BuffersLongEnough};
-ghost use Rattle.add_text.specs.Walks.{RunSmall, TextSmall, AddsText, AddsElement};
+ghost use Rattle.add_text.specs.Walks.{RunSmall, TextSmall, AddsText};
 
 // What a T field says of its text: the mode, 0 to 2, and the two annotations.
 pub struct Run {
@@ -86,31 +81,5 @@ pub fn add_text(
                 return Flushed::Done(last);
             }
         }
-    }
-}
-
-// `add_element`: a name goes to the word still open, or to the next one.
-pub fn add_element(frame: Frame, st: State, wb: &mut [u8], wt: &mut [u32], name: &[u8]) -> State
-    requires { ⌜ CountsWithinUnits frame st × BuffersLongEnough frame 4608 4608 (length (now wb)) (length (now wt)) ⌝ }
-    requires { ⌜ st .used + 1 + length (now name) ≤ 4096 ⌝ }
-    ensures { λ r. ⌜ CountsWithinUnits frame r × (r .used ≡ st .used + 1 + length (now (name .entry))) ⌝ }
-    ensures { λ r. ⌜ AddsElement st (now (name .entry)) (now (wb .entry)) (now (wt .entry)) r (now (wb .exit)) (now (wt .exit)) ⌝ }
-{
-    let line = st.line;
-    let word = st.word;
-    let blanks = st.blanks;
-    let start = push_byte(wb, wt, word.n, 0, MARK);
-    let n = push_text(wb, wt, start, name, NAME);
-    let longer = Word {
-        n,
-        cols: word.cols,
-        text: word.text,
-    };
-    State {
-        line,
-        word: longer,
-        blanks,
-        wrapped: st.wrapped,
-        used: st.used + 1 + name.len(),
     }
 }

@@ -1,10 +1,10 @@
 // One character of `add_text`'s walk.
-use crate::chars::collapse;
-use crate::chars::keep_blank;
-use crate::chars::push_word;
-use crate::stops::newline;
-use crate::stops::tab;
 use crate::text::Run;
+use add_chars::chars::collapse;
+use add_chars::chars::keep_blank;
+use add_chars::chars::push_word;
+use add_chars::stops::newline;
+use add_chars::stops::tab;
 use characters::columns::Columns;
 use characters::columns::columns_of;
 use characters::whitespace::always_takes_space;
@@ -21,7 +21,7 @@ ghost use Prim.Native.Nat.{_+_, _*_, _<_, _≤_};
 ghost use lib.ListN.{length};
 ghost use Rattle.characters.specs.Columns.{widthOf};
 ghost use Rattle.flush_word.specs.Keep.{CountsWithinUnits, BuffersLongEnough, StaysWithinUnits};
-ghost use Rattle.add_text.specs.Chars.{AmongUnits};
+ghost use Rattle.add_chars.specs.Chars.{AmongUnits};
 ghost use Rattle.add_text.specs.Walks.{RunSmall, Ready, WalkedSmall, WalkSmall, CharIs, wrappedOn};
 ghost use Rattle.add_text.specs.Walks.{AddsNewline, AddsTab, AddsKept, AddsCollapsed, AddsWordChar, BreaksWord, AddsBlank, PutsChar, AddsChar};
 

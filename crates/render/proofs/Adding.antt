@@ -25,7 +25,8 @@ use Rattle.flush_word.specs.Keep.{Keeps, CountsWithinUnits, BuffersLongEnough}
 use Rattle.flush_word.specs.declared.state.State.{State}
 use Rattle.flush_word.specs.declared.state.Flushed.{Flushed}
 use Rattle.flush_word.specs.declared.state.Flushed.the-variants.{Done, Narrow}
-use Rattle.add_text.specs.Walks.{RunSmall, RunIs, TextSmall, AddsText, AddsElement}
+use Rattle.add_chars.specs.Chars.{AddsElement}
+use Rattle.add_text.specs.Walks.{RunSmall, RunIs, TextSmall, AddsText}
 use Rattle.add_text.specs.declared.text.Run.{Run}
 use Rattle.render.specs.Render.{runOf, AddsField, AddsFields}
 use Rattle.add_text.proofs.Walking.{lent-word}

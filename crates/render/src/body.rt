@@ -1,6 +1,6 @@
 // The fields of a job after its W, each added to the block. What a function here requires, its callers in this crate show.
+use add_chars::chars::add_element;
 use add_text::text::Run;
-use add_text::text::add_element;
 use add_text::text::add_text;
 use fields::field::Field;
 use fields::field::field_at;

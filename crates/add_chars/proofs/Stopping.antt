@@ -24,8 +24,8 @@ use Rattle.hard_wrap.proofs.Blanks.{holds-same}
 use Rattle.flush_word.specs.Keep.{Keeps, CountsWithinUnits, noBlanks}
 use Rattle.flush_word.specs.declared.state.Blanks.{Blanks}
 use Rattle.flush_word.specs.declared.state.State.{State}
-use Rattle.add_text.specs.Chars.{TabFits, TabMoved, Turned, Turns, Tabbed}
-use Rattle.add_text.specs.declared.stops.TabAt.{TabAt}
+use Rattle.add_chars.specs.Chars.{TabFits, TabMoved, Turned, Turns, Tabbed}
+use Rattle.add_chars.specs.declared.stops.TabAt.{TabAt}
 
 -- ---- LF
 

@@ -1,10 +1,10 @@
--- `add_text::chars::push_chars` meets its contract: the bytes of the characters stand after those of the word.
+-- `add_chars::chars::push_chars` meets its contract: the bytes of the characters stand after those of the word.
 -- Assumes nothing.
 use mathlib.Core.Path.{refl}
 use borrow.Author.Needs.{needs}
-use Rattle.add_text.proofs.Wording.{small-push, pushes}
-use Rattle.add_text.proofs.chars.push_chars.Statement.{statement}
-use Rattle.add_text.proofs.chars.push_chars.Tie as tie
+use Rattle.add_chars.proofs.Wording.{small-push, pushes}
+use Rattle.add_chars.proofs.chars.push_chars.Statement.{statement}
+use Rattle.add_chars.proofs.chars.push_chars.Tie as tie
 
 push-text-requires : tie.Need-push-text-requires
 push-text-requires c κs = search needs

@@ -1,9 +1,9 @@
--- `add_text::chars::push_word` meets its contract: one character is put as characters are.
+-- `add_chars::chars::push_word` meets its contract: one character is put as characters are.
 -- Assumes nothing.
 use borrow.Author.Needs.{needs}
-use Rattle.add_text.proofs.Wording.{pushes-one}
-use Rattle.add_text.proofs.chars.push_word.Statement.{statement}
-use Rattle.add_text.proofs.chars.push_word.Tie as tie
+use Rattle.add_chars.proofs.Wording.{pushes-one}
+use Rattle.add_chars.proofs.chars.push_word.Statement.{statement}
+use Rattle.add_chars.proofs.chars.push_word.Tie as tie
 
 push-chars-requires : tie.Need-push-chars-requires
 push-chars-requires c κs = search needs

@@ -1,10 +1,10 @@
--- `add_text::chars::collapse` meets its contract: a blank pends where the line has columns and none pends yet.
+-- `add_chars::chars::collapse` meets its contract: a blank pends where the line has columns and none pends yet.
 -- Assumes nothing.
 use native.Mathlib.Omega.{arith}
 use borrow.Author.Needs.{needs}
-use Rattle.add_text.proofs.Wording.{small-pend, collapses-start, collapses-pending, collapses-one}
-use Rattle.add_text.proofs.chars.collapse.Statement.{statement}
-use Rattle.add_text.proofs.chars.collapse.Tie as tie
+use Rattle.add_chars.proofs.Wording.{small-pend, collapses-start, collapses-pending, collapses-one}
+use Rattle.add_chars.proofs.chars.collapse.Statement.{statement}
+use Rattle.add_chars.proofs.chars.collapse.Tie as tie
 
 returns : tie.Need-returns
 returns c =

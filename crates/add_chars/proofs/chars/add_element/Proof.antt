@@ -1,11 +1,11 @@
--- `add_text::text::add_element` meets its contract: a mark and the bytes of the name stand after those of the word.
+-- `add_chars::chars::add_element` meets its contract: a mark and the bytes of the name stand after those of the word.
 -- Assumes nothing.
 use mathlib.Core.Path.{refl}
 use native.Mathlib.Omega.{arith}
 use borrow.Author.Needs.{needs}
-use Rattle.add_text.proofs.Wording.{small-name, adds-name}
-use Rattle.add_text.proofs.text.add_element.Statement.{statement}
-use Rattle.add_text.proofs.text.add_element.Tie as tie
+use Rattle.add_chars.proofs.Wording.{small-name, adds-name}
+use Rattle.add_chars.proofs.chars.add_element.Statement.{statement}
+use Rattle.add_chars.proofs.chars.add_element.Tie as tie
 
 push-byte-requires : tie.Need-push-byte-requires
 push-byte-requires c κs = search needs

@@ -10,7 +10,7 @@ ghost use mathlib.Core.Path.{_≡_};
 ghost use Prim.Native.Nat.{_+_, _<_};
 ghost use lib.ListN.{length};
 ghost use Rattle.flush_word.specs.Keep.{CountsWithinUnits, BuffersLongEnough};
-ghost use Rattle.add_text.specs.Chars.{Newlines, TabFits, TabMoved, Turns, Tabbed, Tabs, Tabbing};
+ghost use Rattle.add_chars.specs.Chars.{Newlines, TabFits, TabMoved, Turns, Tabbed, Tabs, Tabbing};
 
 // '\n': the line is closed, even an empty one, and pending blanks are gone.
 pub fn newline(frame: Frame, st: State, lb: &mut [u8], lt: &mut [u32], out: &mut [u8]) -> State

@@ -1,4 +1,4 @@
--- `add_text::stops::tab_turn` meets its contract: at the block's edge the line is closed, and before it a space is written.
+-- `add_chars::stops::tab_turn` meets its contract: at the block's edge the line is closed, and before it a space is written.
 -- Assumes nothing.
 use mathlib.Core.Path.{refl}
 use native.Mathlib.Omega.{arith}
@@ -7,9 +7,9 @@ use Rattle.block.specs.Flat.{onLine, flushLine}
 use Rattle.block.proofs.NonSpaces.{texted, trims-flush, trims-space}
 use Rattle.hard_wrap.specs.Hold.{setup}
 use Rattle.hard_wrap.proofs.Blanks.{blank-on}
-use Rattle.add_text.proofs.Stopping.{turn-edge, turn-blank}
-use Rattle.add_text.proofs.stops.tab_turn.Statement.{statement}
-use Rattle.add_text.proofs.stops.tab_turn.Tie as tie
+use Rattle.add_chars.proofs.Stopping.{turn-edge, turn-blank}
+use Rattle.add_chars.proofs.stops.tab_turn.Statement.{statement}
+use Rattle.add_chars.proofs.stops.tab_turn.Tie as tie
 
 flush-line-requires : tie.Need-flush-line-requires
 flush-line-requires c κs = search needs

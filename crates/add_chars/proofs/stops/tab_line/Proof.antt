@@ -1,12 +1,12 @@
--- `add_text::stops::tab_line` meets its contract. The loop's invariant: there is room for the turns left, and they make the whole tab.
+-- `add_chars::stops::tab_line` meets its contract. The loop's invariant: there is room for the turns left, and they make the whole tab.
 -- The measure is the turns left. Assumes nothing.
 use mathlib.Core.Path.{refl}
 use mathlib.Core.Logic.{⊎-elim}
 use native.Mathlib.Omega.{arith}
 use borrow.Author.Needs.{needs}
-use Rattle.add_text.proofs.Stopping.{no-space, off-stop, Turning, going-stops, going-ends, turning, tabbed}
-use Rattle.add_text.proofs.stops.tab_line.Statement.{statement}
-use Rattle.add_text.proofs.stops.tab_line.Tie as tie
+use Rattle.add_chars.proofs.Stopping.{no-space, off-stop, Turning, going-stops, going-ends, turning, tabbed}
+use Rattle.add_chars.proofs.stops.tab_line.Statement.{statement}
+use Rattle.add_chars.proofs.stops.tab_line.Tie as tie
 
 abbrev Inv-loop : tie.InvT-loop
 Inv-loop frame lb₀ lt₀ tag out₀ cur₀ turns₀ lb lt out cur turns = Turning frame lb₀ lt₀ tag out₀ cur₀ lb lt out cur turns

@@ -1,11 +1,11 @@
--- `add_text::stops::newline` meets its contract: LF closes the line, and the blanks and the flag are gone.
+-- `add_chars::stops::newline` meets its contract: LF closes the line, and the blanks and the flag are gone.
 -- Assumes nothing.
 use mathlib.Core.Path.{refl}
 use borrow.Author.Needs.{needs}
 use Rattle.hard_wrap.specs.Hold.{setup}
-use Rattle.add_text.proofs.Stopping.{newline-small, newline-keeps}
-use Rattle.add_text.proofs.stops.newline.Statement.{statement}
-use Rattle.add_text.proofs.stops.newline.Tie as tie
+use Rattle.add_chars.proofs.Stopping.{newline-small, newline-keeps}
+use Rattle.add_chars.proofs.stops.newline.Statement.{statement}
+use Rattle.add_chars.proofs.stops.newline.Tie as tie
 
 force-flush-line-requires : tie.Need-force-flush-line-requires
 force-flush-line-requires c κs = search needs

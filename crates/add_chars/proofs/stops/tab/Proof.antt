@@ -1,11 +1,11 @@
--- `add_text::stops::tab` meets its contract: a tab changes only the lines, from the position over line, word and blanks.
+-- `add_chars::stops::tab` meets its contract: a tab changes only the lines, from the position over line, word and blanks.
 -- Assumes nothing.
 use mathlib.Core.Path.{refl}
 use borrow.Author.Needs.{needs}
 use Rattle.hard_wrap.specs.Hold.{setup}
-use Rattle.add_text.proofs.Stopping.{tab-small, tab-keeps}
-use Rattle.add_text.proofs.stops.tab.Statement.{statement}
-use Rattle.add_text.proofs.stops.tab.Tie as tie
+use Rattle.add_chars.proofs.Stopping.{tab-small, tab-keeps}
+use Rattle.add_chars.proofs.stops.tab.Statement.{statement}
+use Rattle.add_chars.proofs.stops.tab.Tie as tie
 
 add-t12 : tie.Need-add-t12
 add-t12 c = search needs

@@ -11,7 +11,7 @@ use Rattle.characters.specs.Utf8.{utf8, textBytes, Scalar}
 use Rattle.characters.proofs.RoundTrip.{Scalars}
 use Rattle.fields.specs.declared.job.Setup.{Setup}
 use Rattle.block.specs.Tag.{Tag}
-use Rattle.block.specs.Flat.{Block, pushChar, withWord, withWrapped, newline, tabLoop, tab, keepBlank, collapse}
+use Rattle.block.specs.Flat.{Block, pushChar, withWord, withWrapped, newline, tabLoop, tab, keepBlank, collapse, addElement}
 use Rattle.block.specs.TrimsLeaveText.{TrimsLeaveText, TextHasNonSpace}
 use Rattle.lines.specs.Bridge.{num, text}
 use Rattle.hard_wrap.specs.Hold.{setup, Holds}
@@ -19,7 +19,7 @@ use Rattle.hard_wrap.specs.declared.line.Frame.{Frame}
 use Rattle.hard_wrap.specs.declared.line.Open.{Open}
 use Rattle.flush_word.specs.Keep.{Keeps}
 use Rattle.flush_word.specs.declared.state.State.{State}
-use Rattle.add_text.specs.declared.stops.TabAt.{TabAt}
+use Rattle.add_chars.specs.declared.stops.TabAt.{TabAt}
 
 -- ---- LF
 
@@ -116,3 +116,9 @@ abbrev pub Collapses : State → ℕ → State → Type 0
 Collapses st tag r =
     (d₀ : List ℕ) (base : ℕ) (b : Block) (t : Tag) (lb lt wb wt out : List ℕ) → Keeps d₀ base b st lb lt wb wt out
     → tag ≡ num t → t .ann < 256 → Keeps d₀ base (collapse t b) r lb lt wb wt out
+
+-- `add_element`
+abbrev pub AddsElement : State → List ℕ → List ℕ → List ℕ → State → List ℕ → List ℕ → Type 0
+AddsElement st name wb wt r wb′ wt′ =
+    (d₀ : List ℕ) (base : ℕ) (b : Block) (lb lt out : List ℕ) → Keeps d₀ base b st lb lt wb wt out
+    → Keeps d₀ base (addElement name b) r lb lt wb′ wt′ out

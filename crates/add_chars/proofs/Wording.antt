@@ -29,8 +29,8 @@ use Rattle.hard_wrap.specs.declared.line.Frame.{Frame}
 use Rattle.hard_wrap.specs.declared.line.Open.{Open}
 use Rattle.flush_word.specs.Keep.{Keeps, CountsWithinUnits}
 use Rattle.flush_word.specs.declared.state.State.{State}
-use Rattle.add_text.specs.Chars.{AmongUnits, PushesChars, PushesWord, KeepsBlank, Collapses}
-use Rattle.add_text.specs.Walks.{AddsElement}
+use Rattle.add_chars.specs.Chars.{AmongUnits, PushesChars, PushesWord, KeepsBlank, Collapses}
+use Rattle.add_chars.specs.Chars.{AddsElement}
 use Rattle.block.proofs.Same.{cols-of}
 
 -- ---- columns

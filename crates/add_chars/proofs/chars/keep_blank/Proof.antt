@@ -1,11 +1,11 @@
--- `add_text::chars::keep_blank` meets its contract: a blank joins a word with text, and pends else.
+-- `add_chars::chars::keep_blank` meets its contract: a blank joins a word with text, and pends else.
 -- Assumes nothing.
 use mathlib.Core.Path.{refl}
 use native.Mathlib.Omega.{arith}
 use borrow.Author.Needs.{needs}
-use Rattle.add_text.proofs.Wording.{small-pend, keeps-joins, keeps-pends}
-use Rattle.add_text.proofs.chars.keep_blank.Statement.{statement}
-use Rattle.add_text.proofs.chars.keep_blank.Tie as tie
+use Rattle.add_chars.proofs.Wording.{small-pend, keeps-joins, keeps-pends}
+use Rattle.add_chars.proofs.chars.keep_blank.Statement.{statement}
+use Rattle.add_chars.proofs.chars.keep_blank.Tie as tie
 
 push-word-requires : tie.Need-push-word-requires
 push-word-requires c κs = search needs
