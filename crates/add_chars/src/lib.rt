@@ -2,5 +2,7 @@
 // is kept or collapses, LF and tab, and a name.
 //
 // The functions are for the crates above, which show what they require: room in the lent buffers and in the numbers of the state.
+#![tactic(auto)]
+
 pub mod chars;
 pub mod stops;

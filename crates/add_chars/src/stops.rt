@@ -28,7 +28,7 @@ pub fn newline(frame: Frame, st: State, lb: &mut [u8], lt: &mut [u32], out: &mut
 }
 
 // Where a tab stands: the open line, the position, and whether a space was written.
-#[derive(Drop)]
+#[derive(Clone, Copy)]
 pub struct TabAt {
     pub line: Open,
     pub pos: usize,

@@ -3,6 +3,8 @@
 //
 // The functions are for the crates above, which show what they require: room in the lent buffers and in
 // the numbers of the state.
+#![tactic(auto)]
+
 mod runs;
 pub mod text;
 mod walk;

@@ -11,7 +11,7 @@ use flush_word::state::{Flushed, State};
 use hard_wrap::line::Frame;
 
 // What a T field says of its text: the mode, 0 to 2, and the two annotations.
-#[derive(Drop)]
+#[derive(Clone, Copy)]
 pub struct Run {
     pub mode: u32,
     pub main: u32,

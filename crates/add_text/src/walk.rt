@@ -18,13 +18,13 @@ use flush_word::word::flush_word;
 use hard_wrap::line::Frame;
 
 // The state, and the annotation in use (the local `tag` of `add_text`).
-#[derive(Drop)]
+#[derive(Clone, Copy)]
 pub struct Walk {
     pub st: State,
     pub ann: u32,
 }
 
-#[derive(Drop)]
+#[derive(Clone, Copy)]
 pub enum Walked {
     On(Walk),
     Narrow,

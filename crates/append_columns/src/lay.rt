@@ -22,7 +22,7 @@ use seats::survey::{Surveyed, survey};
 use slots::seat::{Slots, first_slots};
 
 // The refusal of a row, 6 or 10, or 0; and whether the border below it has holes.
-#[derive(Drop)]
+#[derive(Clone, Copy)]
 pub struct Asked {
     pub refusal: u8,
     pub holes: bool,

@@ -3,6 +3,8 @@
 // cells that hang on, and with collapsing the cells' first and last borders merged into the two. The row's first line takes the names that wait
 // on the sheet; where the row has no line they wait on. No heap: the first 16 cells are kept in arrays, a border is put together in 65,536
 // bytes of stack, and a line that comes where the border is in 65,538.
+#![tactic(auto)]
+
 mod below;
 mod lay;
 mod old;

@@ -1,6 +1,8 @@
 // `append_subrender` and `append_vert_row` (document 01, "Rows and blocks on a sheet", and requests 2.1 and 2.2): a guest's lines behind
 // their prefixes, and cells below each other with borders between them. The first text that is added takes the names that wait on the sheet.
 // The names that still wait on the sheet and the cells that hang from it are handed on, and those of the guest are dropped.
+#![tactic(auto)]
+
 mod cells;
 mod misfit;
 mod prefixed;

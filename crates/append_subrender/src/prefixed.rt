@@ -15,7 +15,7 @@ use tagged_line::line::push_str;
 use tagged_line::piece::add_pieces;
 
 // The prefix of the next line, from one place to another of the prefixes' bytes, and its columns; or that there is none.
-#[derive(Drop)]
+#[derive(Clone, Copy)]
 pub struct Prefix {
     pub found: bool,
     pub from: usize,
@@ -24,7 +24,7 @@ pub struct Prefix {
 }
 
 // The lines so far, and where the names that still wait begin: at the first name, or behind the last once a line took them.
-#[derive(Drop)]
+#[derive(Clone, Copy)]
 pub struct Added {
     pub lines: Lines,
     pub from: usize,

@@ -6,7 +6,7 @@ use crate::walk::{past_top, walk_lines};
 
 // Where a cell's lines begin and end, the place after the cell, how many lines there are, and whether one of them, or the last border
 // that was taken off and stands behind them, has holes.
-#[derive(Drop)]
+#[derive(Clone, Copy)]
 pub struct Body {
     pub at: usize,
     pub end: usize,

@@ -5,7 +5,7 @@ ghost use Rattle.bodies.specs.Walk.{TopIn, PassesTop, TellsTop, WalkedIn, Walks,
 use fields::field::{Field, field_at};
 
 // Where the last of some lines stands, how many there are, and whether one of them is a border with holes.
-#[derive(Drop)]
+#[derive(Clone, Copy)]
 pub struct Walked {
     pub last: usize,
     pub count: usize,

@@ -5,6 +5,8 @@
 // four bytes; and, if the number is 0, the sheet. The store is filled with EE before the call, and number, length and every byte of the
 // store are compared. An input, a sheet or a store of more than 262,144 bytes is not read; the five spaces take 1,310,720 bytes of stack.
 // The committed file, crates/calls_test/stdin, was made by oracle/stored; its stores have at most 65,536 bytes, but for records at the limits.
+#![tactic(auto)]
+
 ghost use Rattle.std.specs.Prelude.{◌<◌};
 
 use append_columns::append_columns_with_borders;
@@ -19,7 +21,7 @@ use rows::RenderOptions;
 const FILL: u8 = 0xEE;
 
 // Which call a record asks for, what comes with it, and its own flag: whether the last prefix repeats, or whether to collapse.
-#[derive(Drop)]
+#[derive(Clone, Copy)]
 struct Call {
     kind: u8,
     options: RenderOptions,
@@ -27,7 +29,7 @@ struct Call {
 }
 
 // What a record starts with; the file can also end here, or in the middle of it.
-#[derive(Drop)]
+#[derive(Clone, Copy)]
 enum Head {
     Asked(Call),
     Unread,
@@ -35,7 +37,7 @@ enum Head {
 }
 
 // The length of the store, and the number and the length that the call must say.
-#[derive(Drop)]
+#[derive(Clone, Copy)]
 struct Answer {
     store: usize,
     number: u8,
@@ -43,14 +45,14 @@ struct Answer {
 }
 
 // What a record has after its inputs, unless the file ends there.
-#[derive(Drop)]
+#[derive(Clone, Copy)]
 enum Tail {
     Asks(Answer),
     Unread,
 }
 
 // What one record comes to; the number if it is the same.
-#[derive(Drop)]
+#[derive(Clone, Copy)]
 enum Turn {
     Same { kind: u8, number: u8 },
     Different,
@@ -58,7 +60,7 @@ enum Turn {
 }
 
 // How many records there were, and how many of them differ.
-#[derive(Drop)]
+#[derive(Clone, Copy)]
 struct Tally {
     records: u64,
     differences: u64,

@@ -9,14 +9,14 @@ use crate::walk::{Kind, fields_refusal};
 use fields::field::{Field, field_at, first_of, wide};
 
 // Where the fields before the first one with a letter end, and how many they are.
-#[derive(Drop)]
+#[derive(Clone, Copy)]
 pub struct Split {
     pub end: usize,
     pub count: usize,
 }
 
 // Of the fields behind a head: where the names begin, where the cells that hang begin, and the number of the lines.
-#[derive(Drop)]
+#[derive(Clone, Copy)]
 pub struct Body {
     pub names: usize,
     pub hanging: usize,
@@ -24,7 +24,7 @@ pub struct Body {
 }
 
 // Where the names that wait on a sheet begin, at the end of its lines, and where the cells that hang from it begin, at the end of the names.
-#[derive(Drop)]
+#[derive(Clone, Copy)]
 pub struct Parts {
     pub names: usize,
     pub hanging: usize,

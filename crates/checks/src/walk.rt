@@ -10,7 +10,7 @@ use crate::line::lines_refusal;
 use fields::field::{Field, field_at, first_of};
 
 // What a list of fields holds: C and K, C alone, or V.
-#[derive(Drop)]
+#[derive(Clone, Copy)]
 pub enum Kind {
     Cells,
     Plain,

@@ -2,6 +2,8 @@
 // `oracle checks` and is a list of records: a kind byte (0 job, 1 sheet, 2 list of cells, 3 list of
 // prefixes), a length of three bytes, the high byte first, that many bytes, and the number. The committed file,
 // crates/checks_test/stdin, was made by oracle/stored.
+#![tactic(auto)]
+
 use checks::cells::cells_refusal;
 use checks::sheet::sheet_refusal;
 use fields::field::wide;
@@ -10,7 +12,7 @@ use fields::prefixes::prefixes_refusal;
 use libc::{STDIN_FILENO, STDOUT_FILENO};
 
 // What a record starts with; the file can also end here, or in the middle of it.
-#[derive(Drop)]
+#[derive(Clone, Copy)]
 enum Head {
     Input { kind: u8, len: usize },
     Cut,
@@ -18,7 +20,7 @@ enum Head {
 }
 
 // What one record comes to.
-#[derive(Drop)]
+#[derive(Clone, Copy)]
 enum Turn {
     Same,
     Different,
@@ -26,7 +28,7 @@ enum Turn {
 }
 
 // How many records there were, and how many of them differ.
-#[derive(Drop)]
+#[derive(Clone, Copy)]
 struct Tally {
     records: u64,
     differences: u64,

@@ -10,7 +10,7 @@ use rows::RenderOptions;
 use tagged_line::line::{Line, new_line, pad_to, push_drawn};
 
 // The place after the lines so far, their number, and whether one of them has more than 65,535 bytes (refusal 7).
-#[derive(Drop)]
+#[derive(Clone, Copy)]
 pub struct Lines {
     pub at: usize,
     pub count: usize,

@@ -9,7 +9,7 @@ use crate::field::{Field, field_at, first_of};
 use crate::judge::{job_field_refusal, name_refusal, piece_refusal, prefix_refusal};
 
 // What a list of fields holds: T and F of a job, S and F of a line, P, or F after the lines of a sheet.
-#[derive(Drop)]
+#[derive(Clone, Copy)]
 pub enum Kind {
     Job,
     Pieces,

@@ -9,7 +9,7 @@ use hard_wrap::numbers::less;
 use lines::buffer::push_blanks;
 
 // The line and the blanks that are left, once a word does not fit.
-#[derive(Drop)]
+#[derive(Clone, Copy)]
 pub struct Dropped {
     pub line: Open,
     pub blanks: Blanks,

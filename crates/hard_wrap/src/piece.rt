@@ -11,7 +11,7 @@ use crate::wrap::Wrapped;
 use lines::buffer::push_text;
 
 // What a line of a piece comes to: the next line is open, so many bytes and columns on; or `TooNarrow`.
-#[derive(Drop)]
+#[derive(Clone, Copy)]
 enum Step {
     On { st: Open, split: usize, used: usize },
     Stuck,

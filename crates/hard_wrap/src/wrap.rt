@@ -7,7 +7,7 @@ use crate::piece::wrap_piece;
 use lines::encode::{MARK, run_end};
 
 // What a piece or a word comes to: the open line after it, or `TooNarrow`.
-#[derive(Drop)]
+#[derive(Clone, Copy)]
 pub enum Wrapped {
     Done(Open),
     Narrow,

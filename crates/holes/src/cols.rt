@@ -8,7 +8,7 @@ use places::border::border_parts;
 use places::hole::{HoleAt, hole_at};
 
 // The columns of a line's pieces, and whether it has any.
-#[derive(Drop)]
+#[derive(Clone, Copy)]
 pub struct LineCols {
     pub cols: usize,
     pub pieces: bool,

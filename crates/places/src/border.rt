@@ -4,7 +4,7 @@ ghost use Rattle.places.specs.Border.{PartsIn, FindsParts};
 use fields::field::wide;
 
 // Where the segments of a B or G field's content begin, and where they end: there the holes begin.
-#[derive(Drop)]
+#[derive(Clone, Copy)]
 pub struct Parts {
     pub segs: usize,
     pub holes: usize,

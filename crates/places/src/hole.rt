@@ -5,7 +5,7 @@ use fields::field::wide;
 
 // What stands at a place: a hole with its column, its field's letter, its content from start to next, the place past it; a rest that
 // is no hole; or the end.
-#[derive(Drop)]
+#[derive(Clone, Copy)]
 pub enum HoleAt {
     At {
         place: usize,

@@ -10,7 +10,7 @@ use fields::field::{Field, field_at};
 
 // A hanging cell: its position, its width, the rows left to it, and the places where its lines begin and where they and the cell end; the end of the sheet;
 // or what is no hanging cell.
-#[derive(Drop)]
+#[derive(Clone, Copy)]
 pub enum Hanging {
     At {
         position: usize,

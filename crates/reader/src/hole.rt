@@ -6,7 +6,7 @@ use crate::line::{Piece, piece_at};
 use crate::two::two_at;
 
 // A hole: its column, the piece that stands there and the place where it ends, where the next hole stands; the end of the border; or what is no hole.
-#[derive(Drop)]
+#[derive(Clone, Copy)]
 pub enum Hole {
     At {
         column: usize,

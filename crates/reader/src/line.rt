@@ -7,7 +7,7 @@ use fields::field::{Field, field_at};
 
 // A piece of a line: a text with its annotation or a name, from one place to another, where the next piece stands; the end of the line; or
 // what is no piece.
-#[derive(Drop)]
+#[derive(Clone, Copy)]
 pub enum Piece {
     Text {
         annotation: u8,
@@ -25,7 +25,7 @@ pub enum Piece {
 // A line: a text with its first piece and the place where it ends, or a border with its annotation, the place of its segments and their number, and the
 // places where its holes begin and where they and the border end; the place of the first name that waits or of the first hanging cell, where the lines are
 // over; the end of the sheet; or what is no line. The next line stands where this one ends.
-#[derive(Drop)]
+#[derive(Clone, Copy)]
 pub enum Line {
     Text {
         first: Piece,

@@ -9,7 +9,7 @@ use crate::line::{Line, Piece, line_at, line_end, piece_at};
 use crate::waiting::{Waiting, waiting_at};
 
 // The sheet, and the place of a line, a piece, a hole, a name that waits or a hanging cell.
-#[derive(Drop)]
+#[derive(Clone, Copy)]
 pub struct Reader<'a> {
     pub sheet: &'a [u8],
     pub at: usize,

@@ -8,7 +8,7 @@ use fields::field::{Field, field_at};
 
 // A name that waits, from one place to another, where the next one stands; the place of the first hanging cell, where the names are over; the end of the
 // sheet; or what is no name.
-#[derive(Drop)]
+#[derive(Clone, Copy)]
 pub enum Waiting {
     Name { start: usize, end: usize },
     Overhang { place: usize },

@@ -16,14 +16,14 @@ use hard_wrap::line::{Frame, Open};
 use lines::encode::put_pieces;
 
 // Where the block's lines end in the store, with the names that wait behind them, and the number of the lines.
-#[derive(Drop)]
+#[derive(Clone, Copy)]
 pub struct End {
     pub place: usize,
     pub lines: usize,
 }
 
 // The lines are closed and in the store, and the names behind them, or the block was too narrow.
-#[derive(Drop)]
+#[derive(Clone, Copy)]
 pub enum Lines {
     Closed(End),
     Narrow,

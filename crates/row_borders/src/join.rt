@@ -11,7 +11,7 @@ use seats::keep::Kept;
 use slots::seat::{Next, Slots, next_slot};
 
 // How many segments a border has, where the last seat ends, and where the next one begins: at 0 there is none before it.
-#[derive(Drop)]
+#[derive(Clone, Copy)]
 pub struct Joined {
     pub len: usize,
     pub end: usize,

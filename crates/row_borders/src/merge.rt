@@ -14,7 +14,7 @@ use seats::keep::Kept;
 use slots::seat::{Next, Slots, next_slot};
 
 // How many segments a border has, and where the next seat begins.
-#[derive(Drop)]
+#[derive(Clone, Copy)]
 pub struct Merged {
     pub len: usize,
     pub pos: usize,

@@ -9,7 +9,7 @@ use holes::cols::larger;
 use slots::seat::{Next, Seat, Slots, next_slot};
 
 // How far the border below a row and its holes reach past a place, whether the holes reach further, and whether there is one.
-#[derive(Drop)]
+#[derive(Clone, Copy)]
 pub struct Reach {
     pub border: usize,
     pub holes: usize,
@@ -18,7 +18,7 @@ pub struct Reach {
 }
 
 // Whether a row is misfit, and whether the border below it has holes.
-#[derive(Drop)]
+#[derive(Clone, Copy)]
 pub struct Fit {
     pub misfit: bool,
     pub holes: bool,

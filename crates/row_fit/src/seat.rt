@@ -14,7 +14,7 @@ use places::border::border_parts;
 
 // Whether a line of the seat cannot be drawn; how far the last border that was taken off it joins the border below; whether it leaves a
 // hole there, and how many columns the line has that comes where the border is.
-#[derive(Drop)]
+#[derive(Clone, Copy)]
 pub struct SeatFit {
     pub misfit: bool,
     pub join: usize,

@@ -11,7 +11,7 @@ use places::border::border_parts;
 use tagged_line::line::new_line;
 
 // Where the pieces of a line stand, and what they are filled to: laid, or in the bytes of the seat.
-#[derive(Drop)]
+#[derive(Clone, Copy)]
 pub struct Through {
     pub laid: bool,
     pub from: usize,
@@ -20,7 +20,7 @@ pub struct Through {
 }
 
 // The place after what was written, and whether it is too long.
-#[derive(Drop)]
+#[derive(Clone, Copy)]
 pub struct Put {
     pub at: usize,
     pub long: bool,

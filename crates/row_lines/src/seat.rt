@@ -12,7 +12,7 @@ use tagged_line::line::{Line, push_bar, push_drawn, push_str, push_ws};
 use tagged_line::piece::add_pieces;
 
 // A line with what a seat gave to it, and the place of the seat's next line.
-#[derive(Drop)]
+#[derive(Clone, Copy)]
 pub struct Added {
     pub line: Line,
     pub next: usize,
@@ -150,7 +150,7 @@ pub fn add_seat(
 }
 
 // Whether a text line stands at a place, before the end of a seat's lines, and where its pieces begin and end.
-#[derive(Drop)]
+#[derive(Clone, Copy)]
 pub struct TextAt {
     pub found: bool,
     pub start: usize,

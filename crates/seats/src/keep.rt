@@ -7,7 +7,7 @@ use slots::cell::{Laid, cell_at};
 use slots::seat::{Next, Slots, next_slot, total_of};
 
 // How many seats stand in the arrays, whether there are more, the row's width, one too high, where there are none, and what is ahead behind them.
-#[derive(Drop)]
+#[derive(Clone, Copy)]
 pub struct Kept {
     pub n: usize,
     pub more: bool,

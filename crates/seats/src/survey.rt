@@ -12,7 +12,7 @@ use slots::seat::{Next, Slots, next_slot};
 
 // Whether some seat starts with a border; the row's width; its height; and whether each seat is of one row, no wider than the row and
 // without a line with holes.
-#[derive(Drop)]
+#[derive(Clone, Copy)]
 pub struct Surveyed {
     pub top: bool,
     pub total: usize,
@@ -21,7 +21,7 @@ pub struct Surveyed {
 }
 
 // The same of some seats, but for the width.
-#[derive(Drop)]
+#[derive(Clone, Copy)]
 struct Seen {
     top: bool,
     height: usize,

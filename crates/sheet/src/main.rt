@@ -1,4 +1,6 @@
 // Reads a job from standard input and writes its sheet, or one line `refused ` and the number (document 01).
+#![tactic(auto)]
+
 use fields::answer::Rendered;
 use libc::{STDIN_FILENO, STDOUT_FILENO};
 use render::render;

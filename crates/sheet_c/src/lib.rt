@@ -1,6 +1,8 @@
 // The calls for C and for languages that call as C does (include/sheet.h): each gives back the number, 0 or the refusal, and
 // puts the length behind `length`. A slice passes as a pointer and a length. Nothing is required beyond what C's types say: pointers to
 // as many bytes, of which the store and the length overlap nothing else.
+#![tactic(auto)]
+
 ghost use Rattle.std.specs.Prelude.{◌≡◌};
 ghost use Rattle.block.specs.Answer.{render_answer};
 ghost use Rattle.rows.specs.Answer.{subrender_answer, columns_answer, vert_row_answer};

@@ -4,6 +4,8 @@
 // piece. A name that waits is a line `waits` with the name. A hanging cell is a line `hanging at` with its position, its width and the rows left to it, then
 // its lines behind two spaces. What is no sheet, no line, no piece or no hole prints `broken` and ends the run, and so does a sheet that ends early. An input
 // of more than 65,536 bytes prints `refused 1`.
+#![tactic(auto)]
+
 ghost use Rattle.std.specs.Prelude.{◌≤◌, length};
 
 use fields::field::{Field, field_at, wide};

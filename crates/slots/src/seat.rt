@@ -7,7 +7,7 @@ use crate::hung::{Hung, hung_at};
 
 // A cell of the row as it stands in the bytes: whether it hung (its lines are in the sheet, else in the cells); its position; its width;
 // what its lines are filled to (0 for one that hung, and for a filling cell); its rows; where its lines begin and end.
-#[derive(Drop)]
+#[derive(Clone, Copy)]
 pub struct Seat {
     pub hung: bool,
     pub pos: usize,
@@ -20,7 +20,7 @@ pub struct Seat {
 
 // What is ahead of a walk: the place of the next C or K field and its position; the place of the next V field; where the seat before
 // ended; how far V fields behind all cells reach; and how many seats, the front and the back, come before the C and K fields.
-#[derive(Drop)]
+#[derive(Clone, Copy)]
 pub struct Slots {
     pub cell: usize,
     pub pos: usize,
@@ -33,7 +33,7 @@ pub struct Slots {
 }
 
 // The next seat and what is ahead behind it; or the row's width, one too high.
-#[derive(Drop)]
+#[derive(Clone, Copy)]
 pub enum Next {
     Is { seat: Seat, rest: Slots },
     NoMore(usize),

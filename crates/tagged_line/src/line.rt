@@ -8,7 +8,7 @@ use fields::store::{put_byte, put_bytes, put_head, put_repeat, put_two};
 
 // Where the writing of a line stands: where its content begins and where it ends so far; the place of the S field that
 // is open at its end, four bytes back or more, and its annotation; and the columns so far.
-#[derive(Drop)]
+#[derive(Clone, Copy)]
 pub struct Line {
     pub base: usize,
     pub at: usize,

@@ -2,6 +2,8 @@
 // tools/unicode_table.py writes it. Every code point is asked for its columns and white space and is
 // read back from its UTF-8 bytes, and strings of one to four bytes are held to table 3-7. The program
 // writes what it counted, and last how many answers differ.
+#![tactic(auto)]
+
 mod count;
 mod data;
 mod encoding;

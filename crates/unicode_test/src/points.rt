@@ -4,7 +4,7 @@ use crate::{data, print};
 use characters::columns::Columns;
 
 // What was seen of the code points so far.
-#[derive(Drop)]
+#[derive(Clone, Copy)]
 struct Seen {
     listed: u32,
     controls: u32,
