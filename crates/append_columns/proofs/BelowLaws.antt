@@ -7,7 +7,7 @@ use mathlib.Core.List.{List, [], ◌∷◌, ◌++◌, map, append-nil}
 use Prim.Native.Nat.{ℕ, zero, suc, ◌+◌, ◌-◌, ◌%◌, ◌≤◌, ◌<◌}
 use native.Mathlib.Nat.{mod-eq_of_lt}
 use native.Mathlib.Omega.{arith}
-use borrow.Author.Tests.{leb-true, le-leb, lt-leb, not_false}
+use borrow.Author.Tests.{leb-true, le-leb, lt-leb, not-false}
 use lib.Dec.{leb}
 use lib.Seq.{length-take-le}
 use lib.ListN.{length, take, replicate, length-append, length-replicate, length-set}
@@ -58,7 +58,7 @@ unfolding any_past all
 holes_placed n [] few e = refl
 holes_placed n (h ∷ hs) few e =
     let w = h.place + piece_width h.piece in
-    let k = leb-true w n (not_false (leb w n) (or_first (not (leb w n)) (any_past n hs) e)) in
+    let k = leb-true w n (not-false (leb w n) (or_first (not (leb w n)) (any_past n hs) e)) in
     let p : leb h.place 65535 ≡ true = le-leb h.place 65535 (omega (arith, k)) in
     rw (p, holes_placed n hs few (or_second (not (leb w n)) (any_past n hs) e))
 
@@ -80,7 +80,7 @@ unfolding any_past cut_all
 cut_length b [] e = refl
 cut_length b (h ∷ hs) e =
     let w = h.place + piece_width h.piece in
-    let k = leb-true w (length b) (not_false (leb w (length b)) (or_first (not (leb w (length b))) (any_past (length b) hs) e)) in
+    let k = leb-true w (length b) (not-false (leb w (length b)) (or_first (not (leb w (length b))) (any_past (length b) hs) e)) in
     let one = one_length b h.place w k in
     cut_length (cut_for b h.place w) hs (ap (λ (n : ℕ). any_past n hs) one ∙ or_second (not (leb w (length b))) (any_past (length b) hs) e) ∙ one
 

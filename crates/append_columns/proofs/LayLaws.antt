@@ -4,7 +4,7 @@ use mathlib.Core.Path.{◌≡◌, refl, sym, ap, ap₂, ◌∙◌}
 use mathlib.Core.Logic.{◌⊎◌, ⊎_elim}
 use mathlib.Core.Bool.{Bool, true, false, not, ◌&&◌}
 use mathlib.Core.Option.{some}
-use mathlib.Core.List.{List, [], ◌∷◌, ◌++◌, map, map_append, append_assoc}
+use mathlib.Core.List.{List, [], ◌∷◌, ◌++◌, map, map-append, append_assoc}
 use Prim.Native.Nat.{ℕ, zero, suc, ◌+◌, ◌-◌, ◌≤◌}
 use native.Mathlib.Omega.{arith}
 use lib.ListN.{length, take, drop, length-append, drop_of_length-le}
@@ -282,7 +282,7 @@ module _ (o : RenderOptions) (sheet : List ℕ) (stop from last : ℕ) (joined :
         ap₂ (λ (ls : List RenderLine) (ns : List (List ℕ)). sheet_of ls ns (all_hangs seats))
         (append_assoc A (map (padded o) B) (map (padded o) C)
         ∙ ap (λ (z : List RenderLine). A ++ z)
-        (sym (map_append (padded o) B C) ∙ ap (map (padded o)) (sym (row_named old.names o s.height cols o.annotation segs hs))))
+        (sym (map-append (padded o) B C) ∙ ap (map (padded o)) (sym (row_named old.names o s.height cols o.annotation segs hs))))
         (sym (row_leaves old.names o s.height cols o.annotation segs hs))
         ∙ rw (h, t, k)
 

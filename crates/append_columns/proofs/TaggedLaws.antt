@@ -8,7 +8,7 @@ use mathlib.Core.Option.{Option, none, some}
 use mathlib.Core.List.{List, [], ◌∷◌, map}
 use Prim.Native.Nat.{ℕ, suc, ◌+◌, ◌-◌, ◌≤◌, ◌<◌}
 use native.Mathlib.Omega.{arith}
-use borrow.Author.Tests.{leb-true, lt-ltb, le-ltb, not_false}
+use borrow.Author.Tests.{leb-true, lt-ltb, le-ltb, not-false}
 use lib.Dec.{leb}
 use lib.ListN.{length, drop, length-append, length-drop}
 use Rattle.characters.specs.Ranges.{Row, within, lookup}
@@ -131,7 +131,7 @@ tagged_least a segs l pos [] e h = omega (arith, push_adds l a (to_string (drop 
 tagged_least a segs l pos (k ∷ hs) e h =
     let n = length segs in
     let w = k.place + piece_width k.piece in
-    let inside = leb-true w n (not_false (leb w n) (or_first (not (leb w n)) (any_past n hs) e)) in
+    let inside = leb-true w n (not-false (leb w n) (or_first (not (leb w n)) (any_past n hs) e)) in
     let u = up_to_hole a segs l pos k.place in
     let up = up_to_adds a segs l pos k.place (omega (arith, inside)) h in
     tagged_least a segs (push u k.piece) (at_hole pos k.place + piece_width k.piece) hs (or_second (not (leb w n)) (any_past n hs) e)

@@ -2,7 +2,7 @@
 -- Assumes nothing.
 use mathlib.Core.Path.{◌≡◌, refl, ap, ◌∙◌}
 use mathlib.Core.Bool.{Bool, true, false}
-use mathlib.Core.List.{List, [], ◌∷◌, ◌++◌, map, map_append, append-nil, append_assoc}
+use mathlib.Core.List.{List, [], ◌∷◌, ◌++◌, map, map-append, append-nil, append_assoc}
 use Prim.Native.Nat.{ℕ, ◌+◌}
 use native.Mathlib.Omega.{arith}
 use borrow.Author.Tests.{lt-ltb, le-ltb}
@@ -109,6 +109,6 @@ module _ (out : List ℕ) (p : Added) (s : RenderOptions) (names : List ℕ) (ns
       let b = named_lines (names_left ns xs) ys in
       record {
         lines = λ st ls e.
-            rw (named_append ns xs ys, map_append (padded s) a b, ← append_assoc ls (f a) (f b)) (others.lines st (ls ++ f a) (one.lines st ls e));
+            rw (named_append ns xs ys, map-append (padded s) a b, ← append_assoc ls (f a) (f b)) (others.lines st (ls ++ f a) (one.lines st ls e));
         waiting = rw (left_append ns xs ys) others.waiting;
       }

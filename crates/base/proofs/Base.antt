@@ -10,7 +10,7 @@ use Prim.Native.Nat.{ℕ, zero, suc, ◌+◌, ◌-◌, ◌*◌, ◌≤◌}
 use native.Mathlib.Omega.{arith}
 use lib.Dec.{leb, ltb, eqb}
 use lib.ListN.{length, replicate, drop, length-map}
-use borrow.Author.Tests.{le-leb, not_true}
+use borrow.Author.Tests.{le-leb, not-true}
 use Rattle.characters.specs.If.{if◌then◌else◌}
 use Rattle.characters.proofs.Tests.{by_if, and_left, and_right}
 use Rattle.fields.specs.Field.{field, Raw, whole, broken, raws, both, read_all, all}
@@ -100,7 +100,7 @@ line_base : (r : Raw) → not_holed r ≡ true → read_line r ≡ Option.map as
 unfolding read_line base-readLine
 line_base broken e = refl
 line_base (whole l t) e =
-    pick as_line (eqb l 0x4C) (eqb l 0x42) (eqb l 0x47) _ _ _ _ _ (not_true (eqb l 0x47) e)
+    pick as_line (eqb l 0x4C) (eqb l 0x42) (eqb l 0x47) _ _ _ _ _ (not-true (eqb l 0x47) e)
     (map_map as_line base-text text (λ ps. refl) (read_all read_piece (raws t))) (border_base t)
 
 -- THE LINES ARE THE BASE'S.
@@ -109,7 +109,7 @@ lines_base rs e = read_all_lem not_holed as_line read_line base-readLine line_ba
 
 not_hanging_lem : (r : Raw) → not_hanging r ≡ true → is_hanging r ≡ false
 not_hanging_lem broken e = refl
-not_hanging_lem (whole l t) e = not_true (eqb l 0x56) e
+not_hanging_lem (whole l t) e = not-true (eqb l 0x56) e
 
 before_all : (rs : List Raw) → all not_hanging rs ≡ true → before_hanging rs ≡ rs
 unfolding before_hanging all
@@ -125,7 +125,7 @@ from_none (r ∷ rs) e =
 
 not_name_lem : (r : Raw) → not_name r ≡ true → is_name r ≡ false
 not_name_lem broken e = refl
-not_name_lem (whole l t) e = not_true (eqb l 0x46) e
+not_name_lem (whole l t) e = not-true (eqb l 0x46) e
 
 before_unnamed : (rs : List Raw) → all not_name rs ≡ true → before_names rs ≡ rs
 unfolding before_names all
@@ -199,7 +199,7 @@ cell_base : (r : Raw) → base_cell r ≡ true → read_cell r ≡ Option.map as
 unfolding read_cell base-readCell
 cell_base broken e = refl
 cell_base (whole l t) e =
-    pick_one as_cell (eqb l 0x43) (eqb l 0x4B) _ _ _ (not_true (eqb l 0x4B) (and_left (not (eqb l 0x4B)) (all not_holed (raws (drop 1 t))) e))
+    pick_one as_cell (eqb l 0x43) (eqb l 0x4B) _ _ _ (not-true (eqb l 0x4B) (and_left (not (eqb l 0x4B)) (all not_holed (raws (drop 1 t))) e))
     (content_base t (and_right (not (eqb l 0x4B)) (all not_holed (raws (drop 1 t))) e))
 
 plain_base : (r : Raw) → base_cell r ≡ true → read_plain_cell r ≡ Option.map as_cell (base-readCell r)

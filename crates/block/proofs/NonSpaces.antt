@@ -3,7 +3,7 @@
 -- Assumes nothing.
 use Rattle.std.proofs.Common.{◌≡◌, ℕ, zero, suc, ◌+◌, ◌%◌, Bool, true, false, not, ◌&&◌, ◌||◌, eqb, ltb, leb, List, [], ◌∷◌, ◌++◌, sym, refl, ap, ◌∙◌, eqb-true}
 use mathlib.Core.Option.{Option, none, some}
-use borrow.Author.Tests.{not_false}
+use borrow.Author.Tests.{not-false}
 use Rattle.characters.specs.Columns.{width_of, cols}
 use Rattle.characters.specs.Whitespace.{always_takes_space, is_wordbreak_point}
 use Rattle.characters.specs.Utf8.{chars}
@@ -252,7 +252,7 @@ unfolding flat_flush_word
 trims_flush_word s b h =
     by_if (OnGood TrimsLeaveText) (not (has_text b.word)) (λ _. h)
     (λ e. by_if (OnGood TrimsLeaveText) (leb (b.wslen + columns b.word) (left s b))
-    (λ _. trims_put_wrapped false b h (not_false (has_text b.word) e)) (λ _. trims_wrap s b h))
+    (λ _. trims_put_wrapped false b h (not-false (has_text b.word) e)) (λ _. trims_wrap s b h))
 
 -- ---- add_text
 

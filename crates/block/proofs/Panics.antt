@@ -4,7 +4,7 @@
 -- Assumes nothing.
 use Rattle.std.proofs.Common.{◌≡◌, ℕ, zero, suc, ◌+◌, ◌-◌, ◌<◌, ◌≤◌, min, Bool, true, false, not, ◌&&◌, eqb, ltb, List, [], ◌∷◌, ◌++◌, length, take, drop, sym, refl, ap, ◌∙◌, arith, length-drop, ltb-false, ltb-true, eqb-true}
 use mathlib.Core.Option.{Option, none, some}
-use borrow.Author.Tests.{not_true}
+use borrow.Author.Tests.{not-true}
 use Rattle.characters.specs.If.{if◌then◌else◌}
 use Rattle.characters.specs.Columns.{columns_of, width_of, cols, str_width}
 use Rattle.characters.specs.Whitespace.{is_wordbreak_point}
@@ -422,7 +422,7 @@ module _ (s : Setup) where
     unfolding is_empty columns group
     taken_of true b r e ((n, k, h, g), (fits, clean)) =
         let empty = sym (group_content b.word) ∙ sym (ap (λ (q : WrappedBlock). is_empty q.word) k) ∙ e in
-        let none_left : columns b.word ≡ 0 = no_text b.word (not_true (has_text b.word) empty) in
+        let none_left : columns b.word ≡ 0 = no_text b.word (not-true (has_text b.word) empty) in
         end_of (with_word [] b) (set_word line_new r) (
           (0, ap (set_word line_new) k ∙ ap (λ (m : ℕ). block_of s 0 m (with_word [] b)) none_left, h, omega arith),
           (fits, (clean.0, clean.1, tt)),

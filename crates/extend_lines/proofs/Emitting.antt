@@ -8,7 +8,7 @@ use mathlib.Core.List.{List, [], ◌∷◌, ◌++◌, append_assoc, append-nil}
 use Prim.Native.Nat.{ℕ, ◌+◌, ◌-◌, ◌*◌, ◌%◌, ◌≤◌, ◌<◌}
 use native.Mathlib.Nat.{mod-eq_of_lt}
 use native.Mathlib.Omega.{arith}
-use borrow.Author.Tests.{leb-true, leb-false, le-leb, lt-leb, lt-ltb, le-ltb, not_false}
+use borrow.Author.Tests.{leb-true, leb-false, le-leb, lt-leb, lt-ltb, le-ltb, not-false}
 use lib.Dec.{leb, ltb}
 use lib.ListN.{length, take, drop, length-append, take-append-drop}
 use lib.Seq.{sets, length-sets}
@@ -304,7 +304,7 @@ pub closes_lines : (p : Lines) (store : List ℕ) (a : Answer) → p.long ≡ fa
     → Answers p store a
 unfolding finished give
 closes_lines p store a short few finishes st ls ns vs e =
-    let ok : all_fit ls vs ≡ true = not_false (all_fit ls vs) (sym e.long ∙ short) in
+    let ok : all_fit ls vs ≡ true = not-false (all_fit ls vs) (sym e.long ∙ short) in
     let h : length ls ≤ 65535 = rw e.count at few in
     finishes st ls ns vs (record { store = e.bytes ok; place = e.place ok; lines = e.count }) (omega (arith, h))
     ∙ rw (sym e.long ∙ short, le-ltb 65535 (length ls) h)

@@ -1,0 +1,31 @@
+use mathlib.Core.Path.{refl}
+use mathlib.Core.Logic.{⊎_elim}
+use native.Mathlib.Omega.{arith}
+use borrow.Author.Rules.{rules}
+use Rattle.add_chars.proofs.Stopping.{no_space, off_stop, Turning, going_stops, going_ends, turning, tabbed}
+use Rattle.add_chars.proofs.stops.tab_line.Goals as goal
+
+pub loop-turns-init : goal.loop-turns-init
+loop-turns-init c =
+    record {
+      fits = c.requires;
+      bytes = refl;
+      tags = refl;
+      store = refl;
+      n = omega (arith, c.requires);
+      place = omega arith;
+      going = λ d₀ base b t o k ta ann. record { next = b; holds = o; trims = k; same = refl };
+    }
+
+pub returns-then-cur : goal.returns-then-cur
+returns-then-cur c =
+    record { tabbed = tabbed c.loop-turns.invariant; tabs = λ d₀ base b t o k ta ann. going_stops (c.loop-turns.invariant.going d₀ base b t o k ta ann) c.if-cur-eq0.true c.if-cur.true }
+
+pub loop-turns-preserved : goal.loop-turns-preserved
+loop-turns-preserved c =
+    let on = ⊎_elim (λ w. no_space c.loop-turns.cur.pos c.loop-turns.cur.one w.1.left) (λ w. off_stop c.loop-turns.cur.pos c.loop-turns.cur.one w.left) c.if-cur-eq0.branch in
+    turning c.loop-turns.invariant c.loop-turns-test.true on (search rules) (search rules) (search rules) c.tab_turn-cur.ensures.tab_moved c.tab_turn-cur.ensures.turns
+
+pub returns : goal.returns
+returns c =
+    record { tabbed = tabbed c.loop-turns.invariant; tabs = λ d₀ base b t o k ta ann. going_ends (c.loop-turns.invariant.going d₀ base b t o k ta ann) c.loop-turns-test.false }

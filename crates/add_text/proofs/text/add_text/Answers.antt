@@ -1,0 +1,97 @@
+use mathlib.Core.Path.{◌≡◌, sym, ◌∙◌}
+use Prim.Native.Nat.{ℕ, ◌-◌}
+use native.Mathlib.Omega.{arith}
+use borrow.Author.Rules.{rules}
+use lib.ListN.{length}
+use Rattle.hard_wrap.proofs.Walks.{part_len}
+use Rattle.add_text.proofs.Walking.{lent_same, lent_word, Walking, walking_starts, walking_past, char-inside, char-some, char_is, char-ready, walking_on, walking-narrow, walking_ends}
+use Rattle.add_text.proofs.text.add_text.Goals as goal
+
+-- a length that is as before, which was as at the start
+after : {m n k : ℕ} → n ≡ k → m ≡ n → m ≡ k
+after p q = q ∙ p
+
+pub loop-code-init : goal.loop-code-init
+loop-code-init c =
+    walking_starts c.args.frame c.args.run c.args.text.now c.args.lb.now c.args.lt.now c.args.wb.now c.args.wt.now c.args.out.now _ c.requires.counts_within_units.0 c.requires.run_small.0 c.first_annotation.ensures
+
+pub add_plain-past-requires : goal.add_plain-past-requires
+add_plain-past-requires c =
+    record { walked_small = (record { small = c.loop-code.invariant.small.small; ann = c.loop-code.invariant.small.ann; used = omega arith }, lent_word (lent_same c.requires.counts_within_units.1 c.loop-code.invariant.lb-same c.loop-code.invariant.lt_same c.loop-code.invariant.wb-same c.loop-code.invariant.wt-same)); run_small = (c.requires.run_small.0, omega (arith, part_len c.args.text.now c.loop-code.at, c.loop-code.invariant.inside, c.loop-code.invariant.small.used, c.requires.run_small.1)) }
+
+pub overflow_add-at : goal.overflow_add-at
+overflow_add-at c =
+    let i = walking_past c.loop-code.invariant c.add_plain-past.result _ _ c.add_plain-past.ensures.adds_plain c.add_plain-past.ensures.len_in_bounds.0 c.add_plain-past.ensures.len_in_bounds.1 (search rules) (search rules) in
+    omega (arith, i.inside, c.requires.run_small.1)
+
+pub overflow_add-end : goal.overflow_add-end
+overflow_add-end c =
+    let i = walking_past c.loop-code.invariant c.add_plain-past.result _ _ c.add_plain-past.ensures.adds_plain c.add_plain-past.ensures.len_in_bounds.0 c.add_plain-past.ensures.len_in_bounds.1 (search rules) (search rules) in
+    let e = sym c.decode-d.ensures ∙ c.in-Char.is in
+    omega (arith, char-inside i _ _ e, c.requires.run_small.1)
+
+pub slice_bounds-part-count : goal.slice_bounds-part-count
+slice_bounds-part-count c =
+    omega arith
+
+pub slice_bounds-part-end : goal.slice_bounds-part-end
+slice_bounds-part-end c =
+    let i = walking_past c.loop-code.invariant c.add_plain-past.result _ _ c.add_plain-past.ensures.adds_plain c.add_plain-past.ensures.len_in_bounds.0 c.add_plain-past.ensures.len_in_bounds.1 (search rules) (search rules) in
+    let e = sym c.decode-d.ensures ∙ c.in-Char.is in
+    let h = char-inside i _ _ e in
+    search rules
+
+pub add_char-done-requires : goal.add_char-done-requires
+add_char-done-requires c =
+    let i = walking_past c.loop-code.invariant c.add_plain-past.result _ _ c.add_plain-past.ensures.adds_plain c.add_plain-past.ensures.len_in_bounds.0 c.add_plain-past.ensures.len_in_bounds.1 (search rules) (search rules) in
+    let e = sym c.decode-d.ensures ∙ c.in-Char.is in
+    record { ready = (char-ready i _ _ e c.requires.run_small.1, lent_same c.requires.counts_within_units.1 i.lb-same i.lt_same i.wb-same i.wt-same); char_is = (char_is i _ _ e, c.requires.run_small.0) }
+
+pub loop-code-smaller : goal.loop-code-smaller
+loop-code-smaller c =
+    let i = walking_past c.loop-code.invariant c.add_plain-past.result _ _ c.add_plain-past.ensures.adds_plain c.add_plain-past.ensures.len_in_bounds.0 c.add_plain-past.ensures.len_in_bounds.1 (search rules) (search rules) in
+    let e = sym c.decode-d.ensures ∙ c.in-Char.is in
+    omega (arith, char-inside i _ _ e, char-some i _ _ e, c.loop-code.invariant.inside)
+
+pub loop-code-preserved : goal.loop-code-preserved
+loop-code-preserved c =
+    let i = walking_past c.loop-code.invariant c.add_plain-past.result _ _ c.add_plain-past.ensures.adds_plain c.add_plain-past.ensures.len_in_bounds.0 c.add_plain-past.ensures.len_in_bounds.1 (search rules) (search rules) in
+    let e = sym c.decode-d.ensures ∙ c.in-Char.is in
+    walking_on i _ _ e c.add_char-done.result _ _ _ _ _ c.add_char-done.ensures.adds_char _ c.in-On.is c.add_char-done.ensures.walk_small (search rules) (search rules) (search rules) (search rules) (search rules)
+
+pub shape_of-lb-in-Narrow : goal.shape_of-lb-in-Narrow
+shape_of-lb-in-Narrow c =
+    let i = walking_past c.loop-code.invariant c.add_plain-past.result _ _ c.add_plain-past.ensures.adds_plain c.add_plain-past.ensures.len_in_bounds.0 c.add_plain-past.ensures.len_in_bounds.1 (search rules) (search rules) in
+    after i.lb-same (search rules)
+
+pub shape_of-lt-in-Narrow : goal.shape_of-lt-in-Narrow
+shape_of-lt-in-Narrow c =
+    let i = walking_past c.loop-code.invariant c.add_plain-past.result _ _ c.add_plain-past.ensures.adds_plain c.add_plain-past.ensures.len_in_bounds.0 c.add_plain-past.ensures.len_in_bounds.1 (search rules) (search rules) in
+    after i.lt_same (search rules)
+
+pub shape_of-wb-in-Narrow : goal.shape_of-wb-in-Narrow
+shape_of-wb-in-Narrow c =
+    let i = walking_past c.loop-code.invariant c.add_plain-past.result _ _ c.add_plain-past.ensures.adds_plain c.add_plain-past.ensures.len_in_bounds.0 c.add_plain-past.ensures.len_in_bounds.1 (search rules) (search rules) in
+    after i.wb-same (search rules)
+
+pub shape_of-wt-in-Narrow : goal.shape_of-wt-in-Narrow
+shape_of-wt-in-Narrow c =
+    let i = walking_past c.loop-code.invariant c.add_plain-past.result _ _ c.add_plain-past.ensures.adds_plain c.add_plain-past.ensures.len_in_bounds.0 c.add_plain-past.ensures.len_in_bounds.1 (search rules) (search rules) in
+    after i.wt-same (search rules)
+
+pub shape_of-out-in-Narrow : goal.shape_of-out-in-Narrow
+shape_of-out-in-Narrow c =
+    let i = walking_past c.loop-code.invariant c.add_plain-past.result _ _ c.add_plain-past.ensures.adds_plain c.add_plain-past.ensures.len_in_bounds.0 c.add_plain-past.ensures.len_in_bounds.1 (search rules) (search rules) in
+    after i.out-same (search rules)
+
+pub returns-in-Narrow : goal.returns-in-Narrow
+returns-in-Narrow c =
+    let i = walking_past c.loop-code.invariant c.add_plain-past.result _ _ c.add_plain-past.ensures.adds_plain c.add_plain-past.ensures.len_in_bounds.0 c.add_plain-past.ensures.len_in_bounds.1 (search rules) (search rules) in
+    let e = sym c.decode-d.ensures ∙ c.in-Char.is in
+    record { text_small = tt; adds_text = walking-narrow i _ _ e c.add_char-done.result _ _ _ _ _ c.add_char-done.ensures.adds_char c.in-Narrow.is }
+
+pub returns-in-Bad : goal.returns-in-Bad
+returns-in-Bad c =
+    let i = walking_past c.loop-code.invariant c.add_plain-past.result _ _ c.add_plain-past.ensures.adds_plain c.add_plain-past.ensures.len_in_bounds.0 c.add_plain-past.ensures.len_in_bounds.1 (search rules) (search rules) in
+    let e = sym c.decode-d.ensures ∙ c.in-Bad.is in
+    record { text_small = (i.small.small, omega (arith, i.inside, i.small.used)); adds_text = walking_ends i e }

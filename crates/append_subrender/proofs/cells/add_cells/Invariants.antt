@@ -1,0 +1,17 @@
+-- `cells::add_cells` meets its contract: the cells added so far, and those left, give the whole.
+-- Assumes nothing.
+use mathlib.Core.Path.{sym, ◌∙◌, subst}
+use Prim.Native.Nat.{◌+◌, ◌-◌, ◌<◌}
+use native.Mathlib.Omega.{arith}
+use lib.ListN.{length}
+use Rattle.fields.specs.Field.{Short}
+use Rattle.fields.proofs.Fields.{FieldIs, field_is, field_broken, field_end}
+use Rattle.append_subrender.proofs.Stacking.{Stack, stack_start, stack_cell, stack_on, stack_empty, stack_few, stack_end, stack_broken}
+use borrow.Author.Rules.{rules}
+use Rattle.append_subrender.proofs.cells.add_cells.Given as goal
+
+abbrev pub invariant-loop-start : goal.invariant-loop-start
+invariant-loop-start l = Stack l.initial.out l.initial.next l.options l.names l.cells l.out l.next l.from l.between l.at
+
+abbrev pub decreases-loop-start : goal.decreases-loop-start
+decreases-loop-start l = length l.cells - l.at

@@ -1,0 +1,24 @@
+-- `misfit::line_misfit` meets its contract: the holes of a G field are looked at, and what is no G has none.
+-- Assumes nothing.
+use mathlib.Core.Path.{◌≡◌, sym, ◌∙◌}
+use Prim.Native.Nat.{ℕ}
+use native.Mathlib.Omega.{arith}
+use borrow.Author.Rules.{rules}
+use Rattle.append_subrender.proofs.Telling.{tells_plain, tells_holed}
+use Rattle.append_subrender.proofs.misfit.line_misfit.Goals as goal
+
+pub overflow_sub-parts : goal.overflow_sub-parts
+overflow_sub-parts c =
+    c.border_parts-parts.ensures.parts_in.order
+
+pub overlaps-requires : goal.overlaps-requires
+overlaps-requires c =
+    c.requires
+
+pub returns-then-letter-eq71 : goal.returns-then-letter-eq71
+returns-then-letter-eq71 c =
+    tells_holed _ _ _ _ c.border_parts-parts.ensures.parts_in c.border_parts-parts.ensures.finds_parts c.overlaps.ensures (λ e. omega (arith, c.if-letter-eq71.true, e))
+
+pub returns : goal.returns
+returns c =
+    tells_plain _ _ c.if-letter-eq71.false

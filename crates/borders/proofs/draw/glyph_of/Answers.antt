@@ -1,0 +1,12 @@
+-- `draw::glyph_of` meets its contract: each arm is one of the two tables. Assumes nothing.
+use Rattle.borders.proofs.Glyphs.{glyph_line, glyph_char}
+use borrow.Author.Rules.{rules}
+use Rattle.borders.proofs.draw.glyph_of.Goals as goal
+
+pub returns-then-lines : goal.returns-then-lines
+returns-then-lines c =
+    glyph_line c.args.lines c.args.segment c.if-lines.true c.line_above.ensures
+
+pub returns-else-lines : goal.returns-else-lines
+returns-else-lines c =
+    glyph_char c.args.lines c.args.segment c.if-lines.false c.seg_to_char.ensures

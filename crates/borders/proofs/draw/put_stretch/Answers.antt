@@ -1,0 +1,28 @@
+use mathlib.Core.Path.{◌≡◌}
+use Prim.Native.Nat.{◌+◌, ◌-◌, ◌*◌, ◌≤◌}
+use native.Mathlib.Omega.{arith}
+use lib.ListN.{length, replicate}
+use Rattle.fields.specs.Store.{Wrote}
+use Rattle.borders.specs.BorderSegHoriz.{Horiz}
+use Rattle.borders.specs.BorderHoriz.{drawn}
+use Rattle.borders.proofs.Glyphs.{glyph_most}
+use Rattle.borders.proofs.Drawing.{wrote_none, horiz_full, horiz_wrote}
+use borrow.Author.Rules.{rules}
+use Rattle.borders.proofs.draw.put_stretch.Goals as goal
+
+pub loop-i-init : goal.loop-i-init
+loop-i-init c =
+    (search rules, search rules, search rules, wrote_none c.args.lines c.args.out.now c.args.at)
+
+pub returns-then-out-to : goal.returns-then-out-to
+returns-then-out-to c =
+    horiz_full c.args.lines c.args.k c.loop-i.i c.loop-i.invariant.0 c.loop-i.invariant.3 (omega (arith, c.loop-i.invariant.1, c.if-out-to.true)) c.stretch_len.ensures.value
+
+pub loop-i-preserved : goal.loop-i-preserved
+loop-i-preserved c =
+    (search rules, search rules, omega (arith, c.loop-i.invariant.2, c.put_glyph-to.ensures.place, glyph_most c.args.lines Horiz), horiz_wrote c.args.lines c.loop-i.i c.loop-i.invariant.3 c.put_glyph-to.ensures)
+
+pub returns : goal.returns
+returns c =
+    let e : c.loop-i.i ≡ c.args.k = search rules in
+    rw (← e) c.loop-i.invariant.3

@@ -1,0 +1,29 @@
+-- `borders::segment::line_above` meets its contract: each stretch of numbers that the match leaves lies in one row or between two.
+-- Assumes nothing.
+use mathlib.Core.Path.{sym}
+use mathlib.Core.Logic.{⊎_elim}
+use mathlib.Core.List.{List, [], ◌∷◌}
+use Prim.Native.Nat.{ℕ, zero-le}
+use Rattle.characters.proofs.Ranges.{span, but}
+use Rattle.borders.specs.BorderSegHoriz.{line_above, verticals}
+use Rattle.borders.proofs.segment.line_above.Goals as goal
+
+-- the single segments of the match
+abbrev keys : List ℕ
+keys = 1 ∷ 3 ∷ []
+
+pub returns-in_default : goal.returns-in_default
+returns-in_default c =
+    but 0x20 verticals keys c.in_default.in_default-own.rest.1 zero-le c.in_default.if-segment-lt10-own.true tt
+
+pub returns-in_default-2 : goal.returns-in_default-2
+returns-in_default-2 c =
+    but 0x20 verticals keys c.in_default.in_default-own.rest.1 c.in_default.if-segment-lt12-own.false c.ranges.segment tt
+
+pub returns-in-1 : goal.returns-in-1
+returns-in-1 c =
+    ⊎_elim (λ e. sym (rw e)) (λ e. sym (rw e)) c.in-1.is
+
+pub returns-in-1-2 : goal.returns-in-1-2
+returns-in-1-2 c =
+    span 0x20 verticals c.in-1.if-segment-lt10-own.false c.in-1.if-segment-lt12-own.true tt

@@ -1,0 +1,51 @@
+-- `characters::form::three_bytes` meets its contract: each test is a part of the form, and the mask takes the bits.
+-- Assumes nothing.
+use borrow.Author.Tests.{not-true, not-false}
+use native.Mathlib.Omega.{arith}
+use lib.Bits.{and_le_r, and_mask}
+use Rattle.characters.specs.Forms.{three}
+use borrow.Author.Rules.{rules}
+use Rattle.characters.proofs.form.three_bytes.Goals as goal
+
+pub returns-then-not-in_range : goal.returns-then-not-in_range
+unfolding three
+returns-then-not-in_range c =
+    rw (
+      ← c.second_from.ensures,
+      ← c.second_to.ensures,
+      ← c.in_range.ensures,
+      not-true c.in_range.result c.if-not-in_range.true-raw,
+    )
+
+pub returns-then-not-in_range-2 : goal.returns-then-not-in_range-2
+unfolding three
+returns-then-not-in_range-2 c =
+    rw (
+      ← c.second_from.ensures,
+      ← c.second_to.ensures,
+      ← c.in_range.ensures,
+      not-false c.in_range.result c.if-not-in_range.false-raw,
+      ← c.in_range-2.ensures,
+      not-true c.in_range-2.result c.if-not-in_range-2.true-raw,
+    )
+
+pub add_six-requires : goal.add_six-requires
+add_six-requires c =
+    omega (arith, and_le_r c.args.a 15)
+
+pub add_six-requires-2 : goal.add_six-requires-2
+add_six-requires-2 c =
+    omega (arith, and_le_r c.args.a 15)
+
+pub returns : goal.returns
+unfolding three
+returns c =
+    rw (
+      ← c.second_from.ensures,
+      ← c.second_to.ensures,
+      ← c.in_range.ensures,
+      not-false c.in_range.result c.if-not-in_range.false-raw,
+      ← c.in_range-2.ensures,
+      not-false c.in_range-2.result c.if-not-in_range-2.false-raw,
+    )
+    (cc (and_mask c.args.a 4))

@@ -1,0 +1,20 @@
+-- `characters::plain::ascii_run` meets its contract: each turn passes one printable ASCII character more.
+-- Assumes nothing.
+use mathlib.Core.Path.{refl}
+use mathlib.Core.Bool.{true}
+use mathlib.Core.List.{[]}
+use Prim.Native.Nat.{◌-◌, ◌≤◌}
+use native.Mathlib.Omega.{arith}
+use borrow.Author.Rules.{rules}
+use lib.ListN.{length}
+use Rattle.characters.specs.Columns.{str_width}
+use Rattle.characters.specs.Utf8.{text_bytes}
+use Rattle.characters.specs.Plain.{PlainRun}
+use Rattle.characters.proofs.Runs.{run_ascii}
+use Rattle.characters.proofs.plain.ascii_run.Given as goal
+
+abbrev pub invariant-loop-at : goal.invariant-loop-at
+invariant-loop-at l = (l.at ≤ length l.s) × PlainRun true l.s l.at l.at
+
+abbrev pub decreases-loop-at : goal.decreases-loop-at
+decreases-loop-at l = length l.s - l.at

@@ -1,0 +1,69 @@
+use mathlib.Core.Path.{sym, ◌∙◌}
+use Prim.Native.Nat.{◌-◌}
+use native.Mathlib.Omega.{arith}
+use lib.ListN.{length, length-drop}
+use Rattle.fields.specs.Field.{raws, Short}
+use Rattle.fields.specs.declared.field.Field.TheVariants.{At}
+use Rattle.fields.proofs.Fields.{FieldIs, field_is, field_broken, field_end}
+use Rattle.fields.proofs.First.{Walk, walk_start, walk_on, walk_broken, walk_end_lem}
+use Rattle.fields.proofs.Parts.{part_length}
+use Rattle.fields.proofs.Texts.{rest}
+use Rattle.fields.specs.SpanRefusals.{line_refusal, lines_refusal}
+use Rattle.checks.proofs.LineLaws.{broken_line}
+use borrow.Author.Rules.{rules}
+use Rattle.checks.proofs.line.lines_refusal.Goals as goal
+
+pub loop-letter-init : goal.loop-letter-init
+unfolding lines_refusal
+loop-letter-init c =
+    walk_start _ _
+
+pub slice_bounds-line_refusal-count : goal.slice_bounds-line_refusal-count
+slice_bounds-line_refusal-count c =
+    let found : FieldIs c.loop-letter.rest.now 0 c.in-At.letter c.in-At.start c.in-At.next = field_is _ _ _ _ _ (omega arith) (sym c.field_at-f.ensures.value ∙ c.in-At.is) in
+    (found).order
+
+pub slice_bounds-line_refusal-start : goal.slice_bounds-line_refusal-start
+slice_bounds-line_refusal-start c =
+    let found : FieldIs c.loop-letter.rest.now 0 c.in-At.letter c.in-At.start c.in-At.next = field_is _ _ _ _ _ (omega arith) (sym c.field_at-f.ensures.value ∙ c.in-At.is) in
+    let r = found in omega (arith, r.order, r.inside)
+
+pub slice_bounds-line_refusal-end : goal.slice_bounds-line_refusal-end
+slice_bounds-line_refusal-end c =
+    let found : FieldIs c.loop-letter.rest.now 0 c.in-At.letter c.in-At.start c.in-At.next = field_is _ _ _ _ _ (omega arith) (sym c.field_at-f.ensures.value ∙ c.in-At.is) in
+    let r = found in omega (arith, r.order, r.inside)
+
+pub line_refusal-n-requires : goal.line_refusal-n-requires
+line_refusal-n-requires c =
+    let found : FieldIs c.loop-letter.rest.now 0 c.in-At.letter c.in-At.start c.in-At.next = field_is _ _ _ _ _ (omega arith) (sym c.field_at-f.ensures.value ∙ c.in-At.is) in
+    let r = found in
+    let short : Short (At c.in-At.letter c.in-At.start c.in-At.next) = rw c.in-At.is at c.field_at-f.ensures.short in
+    omega (arith, short, r.order, r.inside, part_length c.in-At.start c.in-At.next c.loop-letter.rest.now r.inside)
+
+pub slice_bounds-rest-count : goal.slice_bounds-rest-count
+slice_bounds-rest-count c =
+    let found : FieldIs c.loop-letter.rest.now 0 c.in-At.letter c.in-At.start c.in-At.next = field_is _ _ _ _ _ (omega arith) (sym c.field_at-f.ensures.value ∙ c.in-At.is) in
+    (found).inside
+
+pub slice_bounds-rest-start : goal.slice_bounds-rest-start
+slice_bounds-rest-start c =
+    let found : FieldIs c.loop-letter.rest.now 0 c.in-At.letter c.in-At.start c.in-At.next = field_is _ _ _ _ _ (omega arith) (sym c.field_at-f.ensures.value ∙ c.in-At.is) in
+    let r = found in omega (arith, r.inside)
+
+pub loop-letter-smaller : goal.loop-letter-smaller
+loop-letter-smaller c =
+    let found : FieldIs c.loop-letter.rest.now 0 c.in-At.letter c.in-At.start c.in-At.next = field_is _ _ _ _ _ (omega arith) (sym c.field_at-f.ensures.value ∙ c.in-At.is) in
+    let r = found in rw (rest _ _, length-drop) (omega (arith, r.begins, r.order, r.inside))
+
+pub loop-letter-preserved : goal.loop-letter-preserved
+loop-letter-preserved c =
+    let found : FieldIs c.loop-letter.rest.now 0 c.in-At.letter c.in-At.start c.in-At.next = field_is _ _ _ _ _ (omega arith) (sym c.field_at-f.ensures.value ∙ c.in-At.is) in
+    rw c.first_of-worst.ensures (walk_on _ _ _ _ c.loop-letter.invariant _ _ _ _ (found) c.line_refusal-n.ensures)
+
+pub returns-in-Broken : goal.returns-in-Broken
+returns-in-Broken c =
+    walk_broken _ _ _ _ c.loop-letter.invariant (field_broken _ 0 (sym c.field_at-f.ensures.value ∙ c.in-Broken.is)) broken_line
+
+pub returns-in-End : goal.returns-in-End
+returns-in-End c =
+    walk_end_lem _ _ _ _ c.loop-letter.invariant (field_end _ 0 (sym c.field_at-f.ensures.value ∙ c.in-End.is))

@@ -1,0 +1,12 @@
+-- `extend_lines::line::finish_line` meets its contract: the head in front of the line's content.
+-- Assumes nothing.
+use mathlib.Core.Logic.{inl, inr, ⊎_elim}
+use mathlib.Core.Path.{refl}
+use native.Mathlib.Omega.{arith}
+use borrow.Author.Rules.{rules}
+use Rattle.extend_lines.proofs.Emitting.{ends}
+use Rattle.extend_lines.proofs.line.finish_line.Goals as goal
+
+pub returns : goal.returns
+returns c =
+    record { one_line_more = record { count = refl; on = omega (arith, c.requires.1.base, c.requires.1.on); at = omega (arith, c.requires.1.at) }; finishes_line = ends _ _ _ _ _ _ c.requires.1.base refl refl (⊎_elim (λ y. inl (y.0.taken, y.1)) (λ y. inr (y.0.left, y.1)) c.if-lines.branch) c.put_head.ensures }

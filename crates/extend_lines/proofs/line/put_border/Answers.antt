@@ -1,0 +1,12 @@
+-- `extend_lines::line::put_border` meets its contract: a B field after the lines.
+-- Assumes nothing.
+use mathlib.Core.Logic.{inl, inr, ⊎_elim}
+use mathlib.Core.Path.{refl}
+use native.Mathlib.Omega.{arith}
+use borrow.Author.Rules.{rules}
+use Rattle.extend_lines.proofs.Emitting.{puts_border}
+use Rattle.extend_lines.proofs.line.put_border.Goals as goal
+
+pub returns : goal.returns
+returns c =
+    record { one_line_more = record { count = refl; on = omega (arith, c.put_head-first.ensures.place, c.put_byte-start.ensures.place, c.put_bytes-end.ensures.place); at = omega (arith, c.put_head-first.ensures.place, c.put_byte-start.ensures.place, c.put_bytes-end.ensures.place, c.requires.1) }; puts_border = puts_border _ _ _ _ _ _ _ _ _ _ refl (⊎_elim (λ y. inl (y.0.taken, y.1)) (λ y. inr (y.0.left, y.1)) c.if-lines.branch) c.put_head-first.ensures c.put_byte-start.ensures c.put_bytes-end.ensures }

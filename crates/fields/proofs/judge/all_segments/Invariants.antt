@@ -1,0 +1,15 @@
+-- `fields::judge::all_segments` meets its contract: the bytes behind are segments, and those left decide.
+-- Assumes nothing.
+use mathlib.Core.Path.{refl}
+use Prim.Native.Nat.{◌-◌}
+use native.Mathlib.Omega.{arith}
+use borrow.Author.Rules.{rules}
+use lib.ListN.{length}
+use Rattle.fields.proofs.Sheets.{Segments, segment_on, segment_off, segment_end}
+use Rattle.fields.proofs.judge.all_segments.Given as goal
+
+abbrev pub invariant-loop-i : goal.invariant-loop-i
+invariant-loop-i l = Segments l.s l.i
+
+abbrev pub decreases-loop-i : goal.decreases-loop-i
+decreases-loop-i l = length l.s - l.i

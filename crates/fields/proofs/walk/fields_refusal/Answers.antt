@@ -1,0 +1,75 @@
+use mathlib.Core.Path.{◌≡◌, refl, sym, ◌∙◌}
+use Prim.Native.Nat.{ℕ, ◌-◌}
+use native.Mathlib.Omega.{arith}
+use borrow.Author.Rules.{rules}
+use lib.ListN.{length, length-drop}
+use Rattle.fields.specs.Field.{broken, raws}
+use Rattle.fields.specs.First.{first_over}
+use Rattle.fields.specs.Job.{read_field}
+use Rattle.fields.specs.Sheet.{read_piece, read_prefix}
+use Rattle.fields.specs.Spans.{read_name}
+use Rattle.fields.specs.Walk.{field_refusal, piece_refusal, prefix_refusal, name_refusal, refusal_in}
+use Rattle.fields.specs.declared.walk.Kind.{Kind}
+use Rattle.fields.specs.declared.walk.Kind.TheVariants.{Job, Pieces, Prefixes, Names}
+use Rattle.fields.proofs.Fields.{FieldIs, field_is, field_broken, field_end}
+use Rattle.fields.proofs.First.{Walk, walk_start, walk_on, walk_broken, walk_end_lem}
+use Rattle.fields.proofs.Texts.{rest}
+use Rattle.fields.proofs.walk.fields_refusal.Goals as goal
+
+-- a rest that is no field is refusal 1 in a list of any kind
+broken_in : (k : Kind) → refusal_in k broken ≡ 1
+unfolding field_refusal read_field piece_refusal read_piece prefix_refusal read_prefix name_refusal read_name
+broken_in Job = refl
+broken_in Pieces = refl
+broken_in Prefixes = refl
+broken_in Names = refl
+
+pub loop-letter-init : goal.loop-letter-init
+loop-letter-init c =
+    walk_start _ _
+
+pub slice_bounds-field_refusal-count : goal.slice_bounds-field_refusal-count
+slice_bounds-field_refusal-count c =
+    let found : FieldIs c.loop-letter.rest.now 0 c.in-At.letter c.in-At.start c.in-At.next = field_is _ _ _ _ _ (omega arith) (sym c.field_at-f.ensures.value ∙ c.in-At.is) in
+    (found).order
+
+pub slice_bounds-field_refusal-start : goal.slice_bounds-field_refusal-start
+slice_bounds-field_refusal-start c =
+    let found : FieldIs c.loop-letter.rest.now 0 c.in-At.letter c.in-At.start c.in-At.next = field_is _ _ _ _ _ (omega arith) (sym c.field_at-f.ensures.value ∙ c.in-At.is) in
+    let r = found in omega (arith, r.order, r.inside)
+
+pub slice_bounds-field_refusal-end : goal.slice_bounds-field_refusal-end
+slice_bounds-field_refusal-end c =
+    let found : FieldIs c.loop-letter.rest.now 0 c.in-At.letter c.in-At.start c.in-At.next = field_is _ _ _ _ _ (omega arith) (sym c.field_at-f.ensures.value ∙ c.in-At.is) in
+    let r = found in omega (arith, r.order, r.inside)
+
+pub slice_bounds-rest-count : goal.slice_bounds-rest-count
+slice_bounds-rest-count c =
+    let found : FieldIs c.loop-letter.rest.now 0 c.in-At.letter c.in-At.start c.in-At.next = field_is _ _ _ _ _ (omega arith) (sym c.field_at-f.ensures.value ∙ c.in-At.is) in
+    (found).inside
+
+pub slice_bounds-rest-start : goal.slice_bounds-rest-start
+slice_bounds-rest-start c =
+    let found : FieldIs c.loop-letter.rest.now 0 c.in-At.letter c.in-At.start c.in-At.next = field_is _ _ _ _ _ (omega arith) (sym c.field_at-f.ensures.value ∙ c.in-At.is) in
+    let r = found in omega (arith, r.inside)
+
+pub loop-letter-smaller : goal.loop-letter-smaller
+loop-letter-smaller c =
+    let found : FieldIs c.loop-letter.rest.now 0 c.in-At.letter c.in-At.start c.in-At.next = field_is _ _ _ _ _ (omega arith) (sym c.field_at-f.ensures.value ∙ c.in-At.is) in
+    let r = found in
+    rw (rest _ _, length-drop) (omega (arith, r.begins, r.order, r.inside))
+
+pub loop-letter-preserved : goal.loop-letter-preserved
+loop-letter-preserved c =
+    let found : FieldIs c.loop-letter.rest.now 0 c.in-At.letter c.in-At.start c.in-At.next = field_is _ _ _ _ _ (omega arith) (sym c.field_at-f.ensures.value ∙ c.in-At.is) in
+    rw c.first_of-worst.ensures
+    (walk_on _ _ _ _ c.loop-letter.invariant _ _ _ _ (found) c.field_refusal-n.ensures)
+
+pub returns-in-Broken : goal.returns-in-Broken
+returns-in-Broken c =
+    walk_broken _ _ _ _ c.loop-letter.invariant (field_broken _ 0 (sym c.field_at-f.ensures.value ∙ c.in-Broken.is))
+    (broken_in c.args.kind)
+
+pub returns-in-End : goal.returns-in-End
+returns-in-End c =
+    walk_end_lem _ _ _ _ c.loop-letter.invariant (field_end _ 0 (sym c.field_at-f.ensures.value ∙ c.in-End.is))

@@ -1,0 +1,15 @@
+-- `flush::write_blanks` meets its contract: the blanks that are left, from the block as it now stands, give what all of them give. Assumes nothing.
+use mathlib.Core.Option.{some}
+use mathlib.Core.Path.{refl, sym, ◌∙◌}
+use native.Mathlib.Omega.{arith}
+use borrow.Author.Rules.{rules}
+use Rattle.block.specs.Flat.{write_blanks}
+use Rattle.hard_wrap.specs.Hold.{setup}
+use Rattle.hard_wrap.proofs.Blanks.{holds_same, Blanking, blanks_turn, blanks_none}
+use Rattle.hard_wrap.proofs.flush.write_blanks.Given as goal
+
+abbrev pub invariant-loop-left : goal.invariant-loop-left
+invariant-loop-left l = Blanking l.frame l.initial.lb l.initial.lt l.count l.tag l.initial.out l.initial.cur l.lb l.lt l.out l.cur l.left
+
+abbrev pub decreases-loop-left : goal.decreases-loop-left
+decreases-loop-left l = l.left

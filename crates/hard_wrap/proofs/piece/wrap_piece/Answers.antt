@@ -1,0 +1,243 @@
+use mathlib.Core.Logic.{⊎_elim}
+use mathlib.Core.List.{List}
+use mathlib.Core.Path.{◌≡◌, refl, ◌∙◌}
+use Prim.Native.Nat.{ℕ, ◌+◌, ◌-◌, ◌*◌, ◌^◌, ◌≤◌, ◌<◌, min}
+use native.Mathlib.Nat.{le_of_lt, le_of_eq, le_trans, lt_of_le_of_lt, add-lt-add_of_lt_of_le}
+use native.Mathlib.Omega.{arith}
+use borrow.Author.Tests.{ltb-true, ltb-false}
+use borrow.Author.Rules.{rules, Fits-under}
+use lib.ListN.{length, take, drop}
+use Rattle.characters.specs.Columns.{str_width}
+use Rattle.characters.specs.Utf8.{text_bytes}
+use Rattle.characters.proofs.RoundTrip.{Scalars}
+use Rattle.hard_wrap.specs.Hold.{setup, Room, Moved}
+use Rattle.hard_wrap.specs.Walk.{Going, Split}
+use Rattle.hard_wrap.proofs.Piecewise.{Walked, forward_on, piece_start, piece_turn, piece_stuck, piece_rest, piece_end}
+use Rattle.hard_wrap.proofs.Walks.{part_len, going_start, going_run, going_on, going-stop, going_end, split_same}
+use Rattle.fields.proofs.Texts.{rest as part-rest}
+use Rattle.hard_wrap.proofs.piece.wrap_piece.Goals as goal
+
+pub loop-bpos-init : goal.loop-bpos-init
+loop-bpos-init c =
+    record {
+      inside = omega arith;
+      cols = omega (arith, c.requires);
+      bytes = refl;
+      tags = refl;
+      store = refl;
+      n = omega arith;
+      place = omega arith;
+      lines = c.requires.room.lines;
+      used = omega arith;
+      going = λ d₀ base b t cs o ta ann sc e. piece_start (setup c.args.frame) d₀ base b t cs c.args.piece.now c.args.st c.args.lb.now c.args.lt.now c.args.out.now o sc e;
+    }
+
+pub walk-init : goal.walk-init
+walk-init c =
+    let rest : List ℕ = take (length c.args.piece.now - c.loop-bpos.bpos) (drop c.loop-bpos.bpos c.args.piece.now) in
+    (search rules, search rules, λ cs v e. going_start (rest) cs e)
+
+pub glyph-g-requires : goal.glyph-g-requires
+glyph-g-requires c =
+    let rest : List ℕ = take (length c.args.piece.now - c.loop-bpos.bpos) (drop c.loop-bpos.bpos c.args.piece.now) in
+    omega (arith, c.if-idx-rest.false, part_len (rest) (c.walk.idx + c.plain_within-run.result.len))
+
+pub overflow_add-next : goal.overflow_add-next
+overflow_add-next c =
+    let rest : List ℕ = take (length c.args.piece.now - c.loop-bpos.bpos) (drop c.loop-bpos.bpos c.args.piece.now) in
+    let left : ℕ = c.args.frame.width - c.loop-bpos.cur.cols in
+    let fits : (c.walk.idx + c.plain_within-run.result.len ≤ length (rest))
+    × (c.walk.used + c.plain_within-run.result.cols ≤ left)
+    × (c.walk.used + c.plain_within-run.result.cols < 256) = omega (arith, part_len (rest) c.walk.idx, c.plain_within-run.ensures.len_in_bounds, c.walk.invariant.0, c.walk.invariant.1, c.requires.room.small) in
+    let inside : (0 < c.glyph-g.result.len) × (c.glyph-g.result.cols < 256)
+    × (c.walk.idx + c.plain_within-run.result.len + c.glyph-g.result.len ≤ length (rest)) = omega (arith, (fits).0, c.glyph-g.ensures.len_nonzero, part_len (rest) (c.walk.idx + c.plain_within-run.result.len)) in
+    let room : Room c.args.frame c.loop-bpos.cur (length (rest)) 1 (length c.loop-bpos.lb) (length c.loop-bpos.lt) × (0 < length (rest)) × (length (rest) < 13107) = omega (arith, part_len c.args.piece.now c.loop-bpos.bpos, c.loop-bpos.invariant, c.requires, c.loop-bpos-test.true) in
+    Fits-under _ _ 13107 (lt_of_le_of_lt (inside).2 (room).2) tt
+
+pub overflow_sub-left-in-walk-2 : goal.overflow_sub-left-in-walk-2
+overflow_sub-left-in-walk-2 c =
+    let rest : List ℕ = take (length c.args.piece.now - c.loop-bpos.bpos) (drop c.loop-bpos.bpos c.args.piece.now) in
+    let left : ℕ = c.args.frame.width - c.loop-bpos.cur.cols in
+    let fits : (c.walk.idx + c.plain_within-run.result.len ≤ length (rest))
+    × (c.walk.used + c.plain_within-run.result.cols ≤ left)
+    × (c.walk.used + c.plain_within-run.result.cols < 256) = omega (arith, part_len (rest) c.walk.idx, c.plain_within-run.ensures.len_in_bounds, c.walk.invariant.0, c.walk.invariant.1, c.requires.room.small) in
+    omega (arith, (fits).1)
+
+pub overflow_add-used-in-walk : goal.overflow_add-used-in-walk
+overflow_add-used-in-walk c =
+    let rest : List ℕ = take (length c.args.piece.now - c.loop-bpos.bpos) (drop c.loop-bpos.bpos c.args.piece.now) in
+    let left : ℕ = c.args.frame.width - c.loop-bpos.cur.cols in
+    let fits : (c.walk.idx + c.plain_within-run.result.len ≤ length (rest))
+    × (c.walk.used + c.plain_within-run.result.cols ≤ left)
+    × (c.walk.used + c.plain_within-run.result.cols < 256) = omega (arith, part_len (rest) c.walk.idx, c.plain_within-run.ensures.len_in_bounds, c.walk.invariant.0, c.walk.invariant.1, c.requires.room.small) in
+    let inside : (0 < c.glyph-g.result.len) × (c.glyph-g.result.cols < 256)
+    × (c.walk.idx + c.plain_within-run.result.len + c.glyph-g.result.len ≤ length (rest)) = omega (arith, (fits).0, c.glyph-g.ensures.len_nonzero, part_len (rest) (c.walk.idx + c.plain_within-run.result.len)) in
+    Fits-under _ _ 512 (add-lt-add_of_lt_of_le (fits).2 (le_of_lt (inside).1)) tt
+
+pub walk-smaller : goal.walk-smaller
+walk-smaller c =
+    let rest : List ℕ = take (length c.args.piece.now - c.loop-bpos.bpos) (drop c.loop-bpos.bpos c.args.piece.now) in
+    let left : ℕ = c.args.frame.width - c.loop-bpos.cur.cols in
+    let fits : (c.walk.idx + c.plain_within-run.result.len ≤ length (rest))
+    × (c.walk.used + c.plain_within-run.result.cols ≤ left)
+    × (c.walk.used + c.plain_within-run.result.cols < 256) = omega (arith, part_len (rest) c.walk.idx, c.plain_within-run.ensures.len_in_bounds, c.walk.invariant.0, c.walk.invariant.1, c.requires.room.small) in
+    let inside : (0 < c.glyph-g.result.len) × (c.glyph-g.result.cols < 256)
+    × (c.walk.idx + c.plain_within-run.result.len + c.glyph-g.result.len ≤ length (rest)) = omega (arith, (fits).0, c.glyph-g.ensures.len_nonzero, part_len (rest) (c.walk.idx + c.plain_within-run.result.len)) in
+    omega (arith, inside)
+
+pub walk-preserved : goal.walk-preserved
+walk-preserved c =
+    let rest : List ℕ = take (length c.args.piece.now - c.loop-bpos.bpos) (drop c.loop-bpos.bpos c.args.piece.now) in
+    let left : ℕ = c.args.frame.width - c.loop-bpos.cur.cols in
+    let fits : (c.walk.idx + c.plain_within-run.result.len ≤ length (rest))
+    × (c.walk.used + c.plain_within-run.result.cols ≤ left)
+    × (c.walk.used + c.plain_within-run.result.cols < 256) = omega (arith, part_len (rest) c.walk.idx, c.plain_within-run.ensures.len_in_bounds, c.walk.invariant.0, c.walk.invariant.1, c.requires.room.small) in
+    let inside : (0 < c.glyph-g.result.len) × (c.glyph-g.result.cols < 256)
+    × (c.walk.idx + c.plain_within-run.result.len + c.glyph-g.result.len ≤ length (rest)) = omega (arith, (fits).0, c.glyph-g.ensures.len_nonzero, part_len (rest) (c.walk.idx + c.plain_within-run.result.len)) in
+    let past : (cs : List ℕ) → Scalars cs → rest ≡ text_bytes cs
+    → Going (rest) cs (c.walk.idx + c.plain_within-run.result.len) (c.walk.used + c.plain_within-run.result.cols) = λ cs v e. going_run (rest) cs c.walk.idx c.walk.used c.plain_within-run.result.len c.plain_within-run.result.cols v c.plain_within-run.ensures.plain_run (c.walk.invariant.2 cs v e) in
+    (
+      (inside).2,
+      omega (arith, (fits).1, c.if-left-used.false),
+      λ cs v e.
+          going_on (rest) cs (c.walk.idx + c.plain_within-run.result.len) (c.walk.used + c.plain_within-run.result.cols) c.glyph-g.result.len c.glyph-g.result.cols v c.if-idx-rest.false c.glyph-g.ensures.shows (past cs v e),
+    )
+
+pub wrap_line-step-requires : goal.wrap_line-step-requires
+wrap_line-step-requires c =
+    let rest : List ℕ = take (length c.args.piece.now - c.loop-bpos.bpos) (drop c.loop-bpos.bpos c.args.piece.now) in
+    let room : Room c.args.frame c.loop-bpos.cur (length (rest)) 1 (length c.loop-bpos.lb) (length c.loop-bpos.lt) × (0 < length (rest)) × (length (rest) < 13107) = omega (arith, part_len c.args.piece.now c.loop-bpos.bpos, c.loop-bpos.invariant, c.requires, c.loop-bpos-test.true) in
+    let left : ℕ = c.args.frame.width - c.loop-bpos.cur.cols in
+    let fits : (c.walk.idx + c.plain_within-run.result.len ≤ length (rest))
+    × (c.walk.used + c.plain_within-run.result.cols ≤ left)
+    × (c.walk.used + c.plain_within-run.result.cols < 256) = omega (arith, part_len (rest) c.walk.idx, c.plain_within-run.ensures.len_in_bounds, c.walk.invariant.0, c.walk.invariant.1, c.requires.room.small) in
+    let place : c.if-idx-rest.split ≤ length (rest) = ⊎_elim (λ y. le_trans (le_of_eq y.1) (fits).0) (λ y. le_trans (le_of_eq y.6) (fits).0) c.if-idx-rest.branch in
+    let x = room in
+    record { room = x.0; cols_le_width = (c.loop-bpos.invariant.cols, x.1, place, (fits).1) }
+
+pub overflow_add-bpos : goal.overflow_add-bpos
+overflow_add-bpos c =
+    let rest : List ℕ = take (length c.args.piece.now - c.loop-bpos.bpos) (drop c.loop-bpos.bpos c.args.piece.now) in
+    let moved : Moved c.loop-bpos.cur (length (rest)) c.in-On.st c.in-On.split c.in-On.used = forward_on c.in-On.is c.wrap_line-step.ensures.forward in
+    let onward : (c.loop-bpos.bpos + c.in-On.split < 13107)
+    × (c.loop-bpos.wpos + c.in-On.used < 2 ^ 40)
+    × (2 * (length c.args.piece.now - (c.loop-bpos.bpos + c.in-On.split)) + min 1 c.in-On.st.cols
+    < 2 * (length c.args.piece.now - c.loop-bpos.bpos) + min 1 c.loop-bpos.cur.cols) = omega (arith, moved, c.loop-bpos.invariant, c.requires, part_len c.args.piece.now c.loop-bpos.bpos) in
+    Fits-under _ _ 13107 (onward).0 tt
+
+pub overflow_add-wpos-in-On : goal.overflow_add-wpos-in-On
+overflow_add-wpos-in-On c =
+    let rest : List ℕ = take (length c.args.piece.now - c.loop-bpos.bpos) (drop c.loop-bpos.bpos c.args.piece.now) in
+    let moved : Moved c.loop-bpos.cur (length (rest)) c.in-On.st c.in-On.split c.in-On.used = forward_on c.in-On.is c.wrap_line-step.ensures.forward in
+    let onward : (c.loop-bpos.bpos + c.in-On.split < 13107)
+    × (c.loop-bpos.wpos + c.in-On.used < 2 ^ 40)
+    × (2 * (length c.args.piece.now - (c.loop-bpos.bpos + c.in-On.split)) + min 1 c.in-On.st.cols
+    < 2 * (length c.args.piece.now - c.loop-bpos.bpos) + min 1 c.loop-bpos.cur.cols) = omega (arith, moved, c.loop-bpos.invariant, c.requires, part_len c.args.piece.now c.loop-bpos.bpos) in
+    Fits-under _ _ (2 ^ 40) (onward).1 tt
+
+pub loop-bpos-smaller : goal.loop-bpos-smaller
+loop-bpos-smaller c =
+    let rest : List ℕ = take (length c.args.piece.now - c.loop-bpos.bpos) (drop c.loop-bpos.bpos c.args.piece.now) in
+    let moved : Moved c.loop-bpos.cur (length (rest)) c.in-On.st c.in-On.split c.in-On.used = forward_on c.in-On.is c.wrap_line-step.ensures.forward in
+    let onward : (c.loop-bpos.bpos + c.in-On.split < 13107)
+    × (c.loop-bpos.wpos + c.in-On.used < 2 ^ 40)
+    × (2 * (length c.args.piece.now - (c.loop-bpos.bpos + c.in-On.split)) + min 1 c.in-On.st.cols
+    < 2 * (length c.args.piece.now - c.loop-bpos.bpos) + min 1 c.loop-bpos.cur.cols) = omega (arith, moved, c.loop-bpos.invariant, c.requires, part_len c.args.piece.now c.loop-bpos.bpos) in
+    (onward).2
+
+pub loop-bpos-preserved : goal.loop-bpos-preserved
+loop-bpos-preserved c =
+    let rest : List ℕ = take (length c.args.piece.now - c.loop-bpos.bpos) (drop c.loop-bpos.bpos c.args.piece.now) in
+    let moved : Moved c.loop-bpos.cur (length (rest)) c.in-On.st c.in-On.split c.in-On.used = forward_on c.in-On.is c.wrap_line-step.ensures.forward in
+    let left : ℕ = c.args.frame.width - c.loop-bpos.cur.cols in
+    let wide : (cs : List ℕ) → Scalars cs → c.args.piece.now ≡ text_bytes cs → (n : ℕ) → c.loop-bpos.wpos + n ≡ str_width cs
+    → c.args.frame.width < c.loop-bpos.cur.cols + n = λ cs sc e n f. omega (arith, c.width_of-w.ensures.widths cs sc e, f, ltb-true (c.loop-bpos.wpos + left) c.width_of-w.result c.if-wpos-frame.true-raw, c.loop-bpos.invariant.cols) in
+    let past : (cs : List ℕ) → Scalars cs → rest ≡ text_bytes cs
+    → Going (rest) cs (c.walk.idx + c.plain_within-run.result.len) (c.walk.used + c.plain_within-run.result.cols) = λ cs v e. going_run (rest) cs c.walk.idx c.walk.used c.plain_within-run.result.len c.plain_within-run.result.cols v c.plain_within-run.ensures.plain_run (c.walk.invariant.2 cs v e) in
+    let stopped : (cs : List ℕ) → Scalars cs → rest ≡ text_bytes cs
+    → Split (left) cs c.if-idx-rest.split (c.walk.used + c.plain_within-run.result.cols) = λ cs v e. let part = rest in
+    let l = left in
+    let i = c.walk.idx + c.plain_within-run.result.len in
+    let used = c.walk.used + c.plain_within-run.result.cols in
+    let p = past cs v e in
+    ⊎_elim
+    (λ y. split_same y.1 (going_end part cs i used l y.0.taken p).0)
+    (λ y. split_same y.6 (going-stop part cs i used y.2.result.len y.2.result.cols v y.0.left y.2.ensures.1 l y.5.taken p))
+    c.if-idx-rest.branch in
+    let fw = moved in
+    let pl = part_len c.args.piece.now c.loop-bpos.bpos in
+    record {
+      inside = omega (arith, fw, c.loop-bpos.invariant, pl);
+      cols = omega (arith, fw);
+      bytes = search rules;
+      tags = search rules;
+      store = search rules;
+      n = omega (arith, fw, c.loop-bpos.invariant, pl);
+      place = omega (arith, fw, c.loop-bpos.invariant, pl);
+      lines = fw.lines;
+      used = omega (arith, fw, c.loop-bpos.invariant, pl);
+      going = λ d₀ base b t cs o ta ann sc e.
+          let g = c.loop-bpos.invariant.going d₀ base b t cs o ta ann sc e in
+          let f = part-rest c.args.piece.now c.loop-bpos.bpos ∙ g.rest in
+          let x = c.wrap_line-step.ensures.wraps_line d₀ base g.next t g.q g.holds ta ann g.scalars f
+          (wide cs sc e (str_width g.q) g.cols) (stopped g.q g.scalars f) in
+          piece_turn (setup c.args.frame) d₀ base b t cs c.args.piece.now c.loop-bpos.cur c.loop-bpos.wpos c.loop-bpos.bpos _ _ _ g c.in-On.is _ _ _ x;
+    }
+
+pub shape_of-lb-in-Stuck : goal.shape_of-lb-in-Stuck
+shape_of-lb-in-Stuck c =
+    omega (arith, c.wrap_line-step.auto, c.loop-bpos.invariant.bytes)
+
+pub shape_of-lt-in-Stuck : goal.shape_of-lt-in-Stuck
+shape_of-lt-in-Stuck c =
+    omega (arith, c.wrap_line-step.auto, c.loop-bpos.invariant.tags)
+
+pub shape_of-out-in-Stuck : goal.shape_of-out-in-Stuck
+shape_of-out-in-Stuck c =
+    omega (arith, c.wrap_line-step.auto, c.loop-bpos.invariant.store)
+
+pub returns-in-Stuck : goal.returns-in-Stuck
+returns-in-Stuck c =
+    let left : ℕ = c.args.frame.width - c.loop-bpos.cur.cols in
+    let wide : (cs : List ℕ) → Scalars cs → c.args.piece.now ≡ text_bytes cs → (n : ℕ) → c.loop-bpos.wpos + n ≡ str_width cs
+    → c.args.frame.width < c.loop-bpos.cur.cols + n = λ cs sc e n f. omega (arith, c.width_of-w.ensures.widths cs sc e, f, ltb-true (c.loop-bpos.wpos + left) c.width_of-w.result c.if-wpos-frame.true-raw, c.loop-bpos.invariant.cols) in
+    let rest : List ℕ = take (length c.args.piece.now - c.loop-bpos.bpos) (drop c.loop-bpos.bpos c.args.piece.now) in
+    let past : (cs : List ℕ) → Scalars cs → rest ≡ text_bytes cs
+    → Going (rest) cs (c.walk.idx + c.plain_within-run.result.len) (c.walk.used + c.plain_within-run.result.cols) = λ cs v e. going_run (rest) cs c.walk.idx c.walk.used c.plain_within-run.result.len c.plain_within-run.result.cols v c.plain_within-run.ensures.plain_run (c.walk.invariant.2 cs v e) in
+    let stopped : (cs : List ℕ) → Scalars cs → rest ≡ text_bytes cs
+    → Split (left) cs c.if-idx-rest.split (c.walk.used + c.plain_within-run.result.cols) = λ cs v e. let part = rest in
+    let l = left in
+    let i = c.walk.idx + c.plain_within-run.result.len in
+    let used = c.walk.used + c.plain_within-run.result.cols in
+    let p = past cs v e in
+    ⊎_elim
+    (λ y. split_same y.1 (going_end part cs i used l y.0.taken p).0)
+    (λ y. split_same y.6 (going-stop part cs i used y.2.result.len y.2.result.cols v y.0.left y.2.ensures.1 l y.5.taken p))
+    c.if-idx-rest.branch in
+    record { grows = tt; pieces = λ d₀ base b t cs o ta ann sc e.
+          let g = c.loop-bpos.invariant.going d₀ base b t cs o ta ann sc e in
+          let f = part-rest c.args.piece.now c.loop-bpos.bpos ∙ g.rest in
+          let x = c.wrap_line-step.ensures.wraps_line d₀ base g.next t g.q g.holds ta ann g.scalars f
+          (wide cs sc e (str_width g.q) g.cols) (stopped g.q g.scalars f) in
+          λ v cut. piece_stuck (setup c.args.frame) d₀ base b t cs c.args.piece.now c.loop-bpos.cur c.loop-bpos.wpos c.loop-bpos.bpos _ _ _ g c.in-Stuck.is _ _ _ x v }
+
+pub returns-then-bpos-piece : goal.returns-then-bpos-piece
+returns-then-bpos-piece c =
+    let fit : c.width_of-w.result ≤ c.loop-bpos.wpos + (c.args.frame.width - c.loop-bpos.cur.cols) =
+    ⊎_elim (λ y. ltb-false (c.loop-bpos.wpos + (c.args.frame.width - c.loop-bpos.cur.cols)) c.width_of-w.result y.3.left) (λ y. absurd (omega (arith, y.left, c.if-bpos-piece.true))) c.loop-bpos-test.branch in
+    let pl = part_len c.args.piece.now c.loop-bpos.bpos in
+    record { grows = record {
+        n = omega (arith, c.put_text.ensures.longer, pl, c.loop-bpos.invariant);
+        cols = omega (arith, c.put_text.ensures.longer, c.less-used.ensures, fit, c.loop-bpos.invariant);
+        place = omega (arith, c.put_text.ensures.longer, c.less-used.ensures, fit, c.loop-bpos.invariant, c.if-bpos-piece.true);
+        lines = omega (arith, c.put_text.ensures.longer, c.loop-bpos.invariant);
+      }; pieces = λ d₀ base b t cs o ta ann sc e.
+          let g = c.loop-bpos.invariant.going d₀ base b t cs o ta ann sc e in
+          piece_rest (setup c.args.frame) d₀ base b t cs c.args.piece.now c.loop-bpos.cur c.loop-bpos.wpos c.loop-bpos.bpos c.loop-bpos.lb c.loop-bpos.lt c.loop-bpos.out g c.args.frame refl _ _ _ c.less-used.result c.width_of-w.result
+          (c.width_of-w.ensures.widths cs sc e) c.less-used.ensures fit c.loop-bpos.invariant.cols
+          (λ u. c.put_text.ensures.puts_text d₀ base g.next t g.q c.loop-bpos.out g.holds ta ann g.scalars (part-rest c.args.piece.now c.loop-bpos.bpos ∙ g.rest) u) }
+
+pub returns : goal.returns
+returns c =
+    record { grows = record { n = omega (arith, c.loop-bpos.invariant); cols = c.loop-bpos.invariant.cols; place = omega (arith, c.loop-bpos.invariant, c.if-bpos-piece.false); lines = c.loop-bpos.invariant.lines }; pieces = λ d₀ base b t cs o ta ann sc e.
+          piece_end (setup c.args.frame) d₀ base b t cs c.args.piece.now c.loop-bpos.cur c.loop-bpos.wpos c.loop-bpos.bpos c.loop-bpos.lb c.loop-bpos.lt c.loop-bpos.out (c.loop-bpos.invariant.going d₀ base b t cs o ta ann sc e) c.if-bpos-piece.false }

@@ -1,0 +1,15 @@
+-- `cols::walk_end` meets its contract: from here the walk ends where the whole one does.
+-- Assumes nothing.
+use Rattle.holes.proofs.WidthLaws.{Walked, walk_start, walk_on, walk_small, walk_broken, walk_done, walk_few, last_few}
+use Rattle.places.proofs.HoleLaws.{FoundHole, found_hole, told_hole}
+use native.Mathlib.Omega.{arith}
+use lib.ListN.{length}
+use Prim.Native.Nat.{◌-◌}
+use borrow.Author.Rules.{rules}
+use Rattle.holes.proofs.cols.walk_end.Given as goal
+
+abbrev pub invariant-loop-place : goal.invariant-loop-place
+invariant-loop-place l = Walked l.content l.holes l.end l.pos l.at
+
+abbrev pub decreases-loop-place : goal.decreases-loop-place
+decreases-loop-place l = length l.content - l.at

@@ -1,0 +1,15 @@
+-- `overhang::hang::hang_on` meets its contract: what hangs on of the cells passed stands, and the others are ahead.
+-- Assumes nothing.
+use mathlib.Core.Path.{subst}
+use native.Mathlib.Omega.{arith}
+use borrow.Author.Rules.{rules}
+use Rattle.slots.specs.Seats.{slots_measure, NextIn, FindsNext}
+use Rattle.extend_lines.proofs.Handing.{bytes_known}
+use Rattle.overhang.proofs.RowLaws.{Turns, turns-start, turns-on, turns-end, turns-far}
+use Rattle.overhang.proofs.hang.hang_on.Given as goal
+
+abbrev pub invariant-loop-next : goal.invariant-loop-next
+invariant-loop-next l = Turns l.options l.height l.collapse l.cells l.sheet l.initial.out l.initial.next l.from l.ahead l.out l.next
+
+abbrev pub decreases-loop-next : goal.decreases-loop-next
+decreases-loop-next l = slots_measure l.cells l.sheet l.ahead

@@ -1,0 +1,12 @@
+-- `overhang::hang::put_hanging` meets its contract: the field stands in the part of the store behind the others.
+-- Assumes nothing.
+use mathlib.Core.Logic.{inl, inr, ⊎_elim}
+use mathlib.Core.Path.{refl}
+use native.Mathlib.Omega.{arith}
+use borrow.Author.Rules.{rules}
+use Rattle.overhang.proofs.HangLaws.{hangs_on}
+use Rattle.overhang.proofs.hang.put_hanging.Goals as goal
+
+pub returns : goal.returns
+returns c =
+    record { hanging_in = record { on = omega arith; most = omega (arith, c.put_field-n.ensures.upper_bound); count = refl }; hangs_on = hangs_on _ c.put_field-n.new.0 _ _ _ c.args.options _ c.args.pos c.args.width c.args.span c.args.to c.args.at c.args.end c.args.collapse c.args.height c.body_of-b.result c.skip_lines-from.result c.smaller-place.result c.put_field-n.result c.requires.2 c.requires.1 c.body_of-b.ensures.finds_body c.skip_lines-from.ensures.skips_to c.smaller-place.ensures c.put_field-n.ensures.puts_hanging c.put_field-n.auto.0 refl refl refl (⊎_elim (λ y. inl (y.0.taken, y.1)) (λ y. inr (y.0.left, y.1)) c.if-lines.branch) }

@@ -1,0 +1,42 @@
+-- `reader::line::line_in` meets its contract: the line of the sheet up to the cell's end, but for names.
+-- Assumes nothing.
+use mathlib.Core.Path.{◌≡◌, refl, ◌∙◌, sym}
+use mathlib.Core.List.{[], ◌∷◌}
+use mathlib.Core.Logic.{⊎_elim}
+use native.Mathlib.Omega.{arith}
+use borrow.Author.Rules.{rules}
+use lib.Seq.{length-take-le}
+use types.Run.{OneOf}
+use denote.Enum.Declared.{tag_of}
+use Rattle.reader.specs.Reading.{in_cell}
+use Rattle.reader.specs.declared.line.Line.{Line}
+use Rattle.reader.specs.declared.line.Line.TheVariants as line
+use Rattle.reader.specs.contracts.line.Line as L
+use Rattle.reader.proofs.Places.{line_outside, line_inside}
+use Rattle.reader.proofs.line.line_in.Goals as goal
+
+-- What is not the place of a name stands in a cell as in a sheet.
+stays : (l : Line) → OneOf (0 ∷ 1 ∷ 3 ∷ 4 ∷ 5 ∷ []) (tag_of L.the_type l) → l ≡ in_cell l
+stays (line.Text p end) h = refl
+stays (line.Border a place n holes end) h = refl
+stays (line.Names place) h =
+    absurd (⊎_elim (λ k. omega arith) (⊎_elim (λ k. omega arith) (⊎_elim (λ k. omega arith) (⊎_elim (λ k. omega arith) (λ k. omega arith)))) h)
+stays (line.Overhang place) h = refl
+stays line.Broken h = refl
+stays line.End h = refl
+
+pub returns-then-sheet-end : goal.returns-then-sheet-end
+returns-then-sheet-end c =
+    line_outside _ _ _ c.if-sheet-end.true
+
+pub slice_bounds-line_at-end : goal.slice_bounds-line_at-end
+slice_bounds-line_at-end c =
+    sym (length-take-le _ _ c.if-sheet-end.false)
+
+pub returns-in-Names : goal.returns-in-Names
+returns-in-Names c =
+    line_inside _ _ _ _ c.if-sheet-end.false (sym c.line_at-l.ensures ∙ c.in-Names.is)
+
+pub returns : goal.returns
+returns c =
+    stays _ c.in_default.in_default-own.keys2 ∙ line_inside _ _ _ _ c.if-sheet-end.false (sym c.line_at-l.ensures)

@@ -1,0 +1,25 @@
+-- `render::sheet::wrap_fields` meets its contract: all fields from the new block on, and then its end.
+-- Assumes nothing.
+use mathlib.Core.Path.{ap}
+use native.Mathlib.Omega.{arith}
+use borrow.Author.Rules.{rules}
+use Rattle.flush_word.specs.declared.state.State.{State}
+use Rattle.render.proofs.Finishing.{small_fresh, wraps_done, wraps_narrow}
+use Rattle.render.proofs.sheet.wrap_fields.Goals as goal
+
+pub add_fields-f-requires : goal.add_fields-f-requires
+add_fields-f-requires c =
+    record { counts_within_units = (small_fresh _ c.new.ensures, c.requires.buffers_long_enough); body_bound = omega (arith, ap (λ (s : State). s.used) c.new.ensures, c.requires.body_bound) }
+
+pub flush_wrapping-requires : goal.flush_wrapping-requires
+flush_wrapping-requires c =
+    let s = rw c.in-Done.is at c.add_fields-f.ensures.text_small in
+    (s.0, omega (arith, c.requires.buffers_long_enough))
+
+pub returns-in-Done : goal.returns-in-Done
+returns-in-Done c =
+    wraps_done c.args.frame c.args.body.now _ _ _ _ _ _ c.new.ensures c.in-Done.st c.flush_wrapping.result _ (rw c.in-Done.is at c.add_fields-f.ensures.adds_fields) c.flush_wrapping.ensures
+
+pub returns-in-Narrow : goal.returns-in-Narrow
+returns-in-Narrow c =
+    wraps_narrow c.args.frame c.args.body.now _ _ _ _ _ _ c.new.ensures (rw c.in-Narrow.is at c.add_fields-f.ensures.adds_fields)

@@ -1,0 +1,15 @@
+-- `join::join_rest` meets its contract: joining before the seats that are ahead gives the whole. Assumes nothing.
+use mathlib.Core.Path.{◌≡◌, refl, subst, ◌∙◌}
+use native.Mathlib.Omega.{arith}
+use borrow.Author.Rules.{rules}
+use lib.ListN.{length}
+use Rattle.slots.specs.Seats.{SlotsIn, slots_measure, NextIn, FindsNext}
+use Rattle.row_borders.proofs.JoinLaws.{RestJoins, rest_starts, rest_goes, rest_ends}
+use Rattle.row_borders.specs.Join.{JoinedIn}
+use Rattle.row_borders.proofs.join.join_rest.Given as goal
+
+abbrev pub invariant-loop-seat : goal.invariant-loop-seat
+invariant-loop-seat l = SlotsIn l.cells l.sheet l.st × (length l.border ≡ length l.initial.border) × JoinedIn l.joined × RestJoins l.side l.initial.border l.initial.joined l.cells l.sheet l.initial.st l.border l.joined l.st
+
+abbrev pub decreases-loop-seat : goal.decreases-loop-seat
+decreases-loop-seat l = slots_measure l.cells l.sheet l.st

@@ -1,0 +1,15 @@
+-- `row::cut_holes` meets its contract: the border is cut for the seats passed, and the others are ahead.
+-- Assumes nothing.
+use mathlib.Core.Path.{◌≡◌, refl, subst, ◌∙◌}
+use native.Mathlib.Omega.{arith}
+use borrow.Author.Rules.{rules}
+use lib.ListN.{length}
+use Rattle.slots.specs.Seats.{slots_measure, NextIn, FindsNext}
+use Rattle.row_holes.proofs.RowLaws.{Cutting, cut_start, cut_on, cut_end, cuts_room}
+use Rattle.row_holes.proofs.row.cut_holes.Given as goal
+
+abbrev pub invariant-loop-seat : goal.invariant-loop-seat
+invariant-loop-seat l = Cutting l.cells l.sheet l.annotation l.collapse l.height (length l.initial.laid) l.initial.st l.st l.initial.border l.len l.border l.n l.pos × (length l.border ≡ length l.initial.border) × (length l.laid ≡ length l.initial.laid)
+
+abbrev pub decreases-loop-seat : goal.decreases-loop-seat
+decreases-loop-seat l = slots_measure l.cells l.sheet l.st

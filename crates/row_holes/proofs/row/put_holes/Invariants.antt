@@ -1,0 +1,15 @@
+-- `row::put_holes` meets its contract: the holes of the seats passed are put, and the others are ahead.
+-- Assumes nothing.
+use mathlib.Core.Path.{◌≡◌, refl, subst, ◌∙◌}
+use native.Mathlib.Omega.{arith}
+use borrow.Author.Rules.{rules}
+use lib.ListN.{length}
+use Rattle.slots.specs.Seats.{slots_measure, NextIn, FindsNext}
+use Rattle.row_holes.proofs.RowLaws.{Putting, put_start, put_on, put_past, put_end, puts_room, end_in, past_in}
+use Rattle.row_holes.proofs.row.put_holes.Given as goal
+
+abbrev pub invariant-loop-seat : goal.invariant-loop-seat
+invariant-loop-seat l = Putting l.cells l.sheet l.base l.annotation l.collapse l.height (length l.initial.laid) l.initial.st l.st l.initial.out l.place l.out l.at l.pos × (length l.out ≡ length l.initial.out) × (length l.laid ≡ length l.initial.laid)
+
+abbrev pub decreases-loop-seat : goal.decreases-loop-seat
+decreases-loop-seat l = slots_measure l.cells l.sheet l.st

@@ -1,0 +1,14 @@
+-- `full::add_full_lines` meets its contract: the lines that were added, and those that the seats have left, are all lines of the row; the
+-- first of them took the names. Assumes nothing.
+use mathlib.Core.Path.{refl}
+use Prim.Native.Nat.{◌-◌}
+use native.Mathlib.Omega.{arith}
+use Rattle.row_lines.proofs.FullLaws.{FullLaid, fulls_start, fulls-on, fulls-long, fulls-end}
+use borrow.Author.Rules.{rules}
+use Rattle.row_lines.proofs.full.add_full_lines.Given as goal
+
+abbrev pub invariant-loop-i : goal.invariant-loop-i
+invariant-loop-i l = FullLaid l.initial.out l.initial.next l.names l.options l.cells l.sheet l.initial.at l.end l.width l.to l.hung l.collapse l.n l.more l.rest l.initial.marks l.height l.out l.at l.marks l.next l.from l.i
+
+abbrev pub decreases-loop-i : goal.decreases-loop-i
+decreases-loop-i l = l.height - l.i

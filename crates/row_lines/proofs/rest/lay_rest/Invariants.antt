@@ -1,0 +1,13 @@
+-- `rest::lay_rest` meets its contract: the seats that were passed are on the line, and their marks stand one line further. Assumes nothing.
+use mathlib.Core.Path.{sym, subst, ◌∙◌}
+use Rattle.row_lines.proofs.RestLaws.{RestLaid, rest_start, rest-edge, rest-room, rest-long, rest_end, rest-on}
+use Rattle.row_lines.proofs.RowLaws.{start_of, start_begun, begun_from, start_below}
+use Rattle.slots.specs.Seats.{slots_measure, NextIn, FindsNext}
+use borrow.Author.Rules.{rules}
+use Rattle.row_lines.proofs.rest.lay_rest.Given as goal
+
+abbrev pub invariant-loop-options : goal.invariant-loop-options
+invariant-loop-options l = RestLaid l.initial.out (start_of l.initial.line) l.initial.line l.options l.cells l.sheet l.initial.st l.collapse l.initial.q l.i l.initial.marks l.out l.marks l.line l.st l.q l.k
+
+abbrev pub decreases-loop-options : goal.decreases-loop-options
+decreases-loop-options l = slots_measure l.cells l.sheet l.st

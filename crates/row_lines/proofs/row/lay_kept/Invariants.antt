@@ -1,0 +1,13 @@
+-- `row::lay_kept` meets its contract: the seats that were passed are on the line, and stand one line further. Assumes nothing.
+use mathlib.Core.Path.{sym, ◌∙◌}
+use Prim.Native.Nat.{◌-◌}
+use native.Mathlib.Omega.{arith}
+use Rattle.row_lines.proofs.RowLaws.{KeptLaid, kept_start, edge-room, seat-room, kept_on, kept-long, kept-end, start_of, start_begun, start_below, begun_from}
+use borrow.Author.Rules.{rules}
+use Rattle.row_lines.proofs.row.lay_kept.Given as goal
+
+abbrev pub invariant-loop-k : goal.invariant-loop-k
+invariant-loop-k l = KeptLaid l.initial.out (start_of l.initial.line) l.initial.line l.options l.cells l.sheet l.initial.at l.end l.width l.to l.hung l.collapse l.n l.out l.at l.line l.k
+
+abbrev pub decreases-loop-k : goal.decreases-loop-k
+decreases-loop-k l = l.n - l.k

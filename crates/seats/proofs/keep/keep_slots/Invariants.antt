@@ -1,0 +1,14 @@
+-- `keep::keep_slots` meets its contract: the first k seats are kept, and the others are ahead. Assumes nothing.
+use mathlib.Core.Path.{subst}
+use Prim.Native.Nat.{◌-◌}
+use native.Mathlib.Omega.{arith}
+use borrow.Author.Rules.{rules}
+use Rattle.slots.specs.Seats.{NextIn, FindsNext}
+use Rattle.seats.proofs.Keeping.{Loop, starts, goes_on, stops, fills}
+use Rattle.seats.proofs.keep.keep_slots.Given as goal
+
+abbrev pub invariant-loop-k : goal.invariant-loop-k
+invariant-loop-k l = Loop l.cells l.sheet l.initial.st l.ats l.ends l.widths l.tos l.spans l.hungs l.st l.k
+
+abbrev pub decreases-loop-k : goal.decreases-loop-k
+decreases-loop-k l = 16 - l.k
