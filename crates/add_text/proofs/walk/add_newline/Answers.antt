@@ -7,7 +7,8 @@ use Rattle.add_text.proofs.walk.add_newline.Goals as goal
 
 pub newline-next-requires : goal.newline-next-requires
 newline-next-requires c =
-    flushed_ready _ _ c.in-Done.is c.requires.run_small.1 c.requires.counts_within_units.1 c.lb-1.given c.lt-1.given c.flush_word-f.ensures.stays_within_units
+    let r = flushed_ready _ _ c.in-Done.is c.requires.run_small.1 c.requires.counts_within_units.1 c.lb-1.given c.lt-1.given c.flush_word-f.ensures.stays_within_units in
+    record { counts_within_units = r.0; used_bound = r.1 }
 
 pub shape_of-lb-in-Done : goal.shape_of-lb-in-Done
 shape_of-lb-in-Done c =

@@ -7,7 +7,8 @@ use Rattle.add_text.proofs.walk.add_tab.Goals as goal
 
 pub tab-next-requires : goal.tab-next-requires
 tab-next-requires c =
-    flushed_ready _ _ c.in-Done.is (omega (arith, c.requires.ready.0.units)) c.requires.ready.1 c.lb-1.given c.lt-1.given c.flush_word-f.ensures.stays_within_units
+    let r = flushed_ready _ _ c.in-Done.is (omega (arith, c.requires.ready.0.units)) c.requires.ready.1 c.lb-1.given c.lt-1.given c.flush_word-f.ensures.stays_within_units in
+    record { counts_within_units = r.0; used_bound = r.1 }
 
 pub shape_of-lb-in-Done : goal.shape_of-lb-in-Done
 shape_of-lb-in-Done c =

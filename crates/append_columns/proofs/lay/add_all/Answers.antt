@@ -8,7 +8,8 @@ use Rattle.append_columns.proofs.lay.add_all.Goals as goal
 
 pub add_old-old-requires : goal.add_old-old-requires
 add_old-old-requires c =
-    ((c.requires.old_in.0.low, c.requires.old_in.0.order, omega (arith, c.requires.old_in.0.names, c.requires.old_in.0.inside), c.requires.old_in.0.head, c.requires.old_in.0.near), ((c.requires.old_in.0.few, c.requires.old_in.0.fewer), (search rules, c.requires.old_in.1)))
+    let r = ((c.requires.old_in.0.low, c.requires.old_in.0.order, omega (arith, c.requires.old_in.0.names, c.requires.old_in.0.inside), c.requires.old_in.0.head, c.requires.old_in.0.near), ((c.requires.old_in.0.few, c.requires.old_in.0.fewer), (search rules, c.requires.old_in.1))) in
+    record { le_last = r.0; sheet_len_bound = r.1; border_len = r.2 }
 
 pub slice_bounds-add_row-count : goal.slice_bounds-add_row-count
 slice_bounds-add_row-count c =

@@ -35,14 +35,17 @@ pub returns-in-At : goal.returns-in-At
 returns-in-At c =
     let found : FieldIs c.args.prefixes.now c.args.prefix.to c.in-At.letter c.in-At.start c.in-At.next = field_is _ _ _ _ _ c.requires.inside (sym c.field_at-f.ensures.value ∙ c.in-At.is) in
     let short : length (take (c.in-At.next - c.in-At.start) (drop c.in-At.start c.args.prefixes.now)) < 65536 = content_short _ _ _ _ _ _ (found) c.in-At.is c.field_at-f.ensures.short in
-    next_found _ _ _ _ _ _ _ (found) (short) c.text_width-cols.ensures.upper_bound c.text_width-cols.ensures.value
+    let r = next_found _ _ _ _ _ _ _ (found) (short) c.text_width-cols.ensures.upper_bound c.text_width-cols.ensures.value in
+    record { placed = r.0; steps = r.1 }
 
 pub returns-in-Broken : goal.returns-in-Broken
 returns-in-Broken c =
-    next_broken _ _ _ _ c.requires
-    (field_broken _ _ (sym c.field_at-f.ensures.value ∙ c.in-Broken.is)) c.prefix_again.ensures
+    let r = next_broken _ _ _ _ c.requires
+    (field_broken _ _ (sym c.field_at-f.ensures.value ∙ c.in-Broken.is)) c.prefix_again.ensures in
+    record { placed = r.0; steps = r.1 }
 
 pub returns-in-End : goal.returns-in-End
 returns-in-End c =
-    next_last _ _ _ _ c.requires
-    (field_end _ _ (sym c.field_at-f.ensures.value ∙ c.in-End.is)) c.prefix_again-in-End.ensures
+    let r = next_last _ _ _ _ c.requires
+    (field_end _ _ (sym c.field_at-f.ensures.value ∙ c.in-End.is)) c.prefix_again-in-End.ensures in
+    record { placed = r.0; steps = r.1 }

@@ -5,8 +5,10 @@ use Rattle.borders.proofs.draw.glyph_of.Goals as goal
 
 pub returns-then-lines : goal.returns-then-lines
 returns-then-lines c =
-    glyph_line c.args.lines c.args.segment c.if-lines.true c.line_above.ensures
+    let r = glyph_line c.args.lines c.args.segment c.if-lines.true c.line_above.ensures in
+    record { value = r.0; upper_bound = r.1 }
 
 pub returns-else-lines : goal.returns-else-lines
 returns-else-lines c =
-    glyph_char c.args.lines c.args.segment c.if-lines.false c.seg_to_char.ensures
+    let r = glyph_char c.args.lines c.args.segment c.if-lines.false c.seg_to_char.ensures in
+    record { value = r.0; upper_bound = r.1 }

@@ -13,21 +13,26 @@ abbrev keys : List ℕ
 keys = 9 ∷ 8 ∷ 2 ∷ 0 ∷ []
 
 pub returns-in-0 : goal.returns-in-0
+unfolding with_above
 returns-in-0 c =
     sym (rw c.in-0.is)
 
 pub returns-in-2 : goal.returns-in-2
+unfolding with_above
 returns-in-2 c =
     sym (rw c.in-2.is)
 
 pub returns-in-8 : goal.returns-in-8
+unfolding with_above
 returns-in-8 c =
     sym (rw c.in-8.is)
 
 pub returns-in-9 : goal.returns-in-9
+unfolding with_above
 returns-in-9 c =
     sym (rw c.in-9.is)
 
 pub returns-in_default : goal.returns-in_default
+unfolding with_above
 returns-in_default c =
-    but _ above keys (none_of keys _ c.in_default.in_default-own.rest) zero-le c.ranges.segment tt
+    but _ above keys (none_of keys _ c.in_default.in_default-own.rest) zero-le c.ranges.segment.fits tt

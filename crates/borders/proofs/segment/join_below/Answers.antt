@@ -13,21 +13,26 @@ abbrev keys : List ℕ
 keys = 11 ∷ 10 ∷ 1 ∷ 0 ∷ []
 
 pub returns-in-0 : goal.returns-in-0
+unfolding with_below
 returns-in-0 c =
     sym (rw c.in-0.is)
 
 pub returns-in-1 : goal.returns-in-1
+unfolding with_below
 returns-in-1 c =
     sym (rw c.in-1.is)
 
 pub returns-in-10 : goal.returns-in-10
+unfolding with_below
 returns-in-10 c =
     sym (rw c.in-10.is)
 
 pub returns-in-11 : goal.returns-in-11
+unfolding with_below
 returns-in-11 c =
     sym (rw c.in-11.is)
 
 pub returns-in_default : goal.returns-in_default
+unfolding with_below
 returns-in_default c =
-    but _ below keys (none_of keys _ c.in_default.in_default-own.rest) zero-le c.ranges.segment tt
+    but _ below keys (none_of keys _ c.in_default.in_default-own.rest) zero-le c.ranges.segment.fits tt

@@ -13,17 +13,21 @@ abbrev keys : List ℕ
 keys = 1 ∷ 3 ∷ []
 
 pub returns-in_default : goal.returns-in_default
+unfolding line_above
 returns-in_default c =
     but 0x20 verticals keys c.in_default.in_default-own.rest.1 zero-le c.in_default.if-segment-lt10-own.true tt
 
 pub returns-in_default-2 : goal.returns-in_default-2
+unfolding line_above
 returns-in_default-2 c =
-    but 0x20 verticals keys c.in_default.in_default-own.rest.1 c.in_default.if-segment-lt12-own.false c.ranges.segment tt
+    but 0x20 verticals keys c.in_default.in_default-own.rest.1 c.in_default.if-segment-lt12-own.false c.ranges.segment.fits tt
 
 pub returns-in-1 : goal.returns-in-1
+unfolding line_above
 returns-in-1 c =
     ⊎_elim (λ e. sym (rw e)) (λ e. sym (rw e)) c.in-1.is
 
 pub returns-in-1-2 : goal.returns-in-1-2
+unfolding line_above
 returns-in-1-2 c =
     span 0x20 verticals c.in-1.if-segment-lt10-own.false c.in-1.if-segment-lt12-own.true tt

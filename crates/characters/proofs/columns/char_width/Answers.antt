@@ -15,12 +15,15 @@ told c x e = let w = cols_in c x e in (omega (arith, cols_le_two c), w)
 
 pub returns-in-Control : goal.returns-in-Control
 returns-in-Control c =
-    told _ _ (sym c.columns_of-k.ensures ∙ c.in-Control.is)
+    let r = told _ _ (sym c.columns_of-k.ensures ∙ c.in-Control.is) in
+    record { upper_bound = r.0; value = r.1 }
 
 pub returns-in-Cols : goal.returns-in-Cols
 returns-in-Cols c =
-    told _ _ (sym c.columns_of-k.ensures ∙ c.in-Cols.is)
+    let r = told _ _ (sym c.columns_of-k.ensures ∙ c.in-Cols.is) in
+    record { upper_bound = r.0; value = r.1 }
 
 pub returns-in-OffList : goal.returns-in-OffList
 returns-in-OffList c =
-    told _ _ (sym c.columns_of-k.ensures ∙ c.in-OffList.is)
+    let r = told _ _ (sym c.columns_of-k.ensures ∙ c.in-OffList.is) in
+    record { upper_bound = r.0; value = r.1 }

@@ -14,25 +14,31 @@ abbrev keys : List ℕ
 keys = 0x20 ∷ 0x85 ∷ 0x3000 ∷ []
 
 pub returns-in_default : goal.returns-in_default
+unfolding always_takes_space
 returns-in_default c =
     span true droppable zero-le c.in_default.if-c-lt9-own.true tt
 
 pub returns-in_default-2 : goal.returns-in_default-2
+unfolding always_takes_space
 returns-in_default-2 c =
     but true droppable keys c.in_default.in_default-own.rest.1 c.in_default.if-c-lt14-own.false c.in_default.if-c-lt8192-own.true tt
 
 pub returns-in_default-3 : goal.returns-in_default-3
+unfolding always_takes_space
 returns-in_default-3 c =
-    but true droppable keys c.in_default.in_default-own.rest.1 c.in_default.if-c-lt8203-own.false c.ranges.c tt
+    but true droppable keys c.in_default.in_default-own.rest.1 c.in_default.if-c-lt8203-own.false c.ranges.c.fits tt
 
 pub returns-in-9-to-13 : goal.returns-in-9-to-13
+unfolding always_takes_space
 returns-in-9-to-13 c =
     ⊎_elim (λ e. sym (rw e)) (⊎_elim (λ e. sym (rw e)) (λ e. sym (rw e))) c.in-9-to-13.in-9-to-13-own.keys1
 
 pub returns-in-9-to-13-2 : goal.returns-in-9-to-13-2
+unfolding always_takes_space
 returns-in-9-to-13-2 c =
     span true droppable c.in-9-to-13.if-c-lt9-own.false c.in-9-to-13.if-c-lt14-own.true tt
 
 pub returns-in-9-to-13-3 : goal.returns-in-9-to-13-3
+unfolding always_takes_space
 returns-in-9-to-13-3 c =
     span true droppable c.in-9-to-13.if-c-lt8192-own.false c.in-9-to-13.if-c-lt8203-own.true tt

@@ -11,4 +11,5 @@ returns-then-n-text c =
 
 pub returns : goal.returns
 returns c =
-    c.walked_width.ensures
+    let r = c.walked_width.ensures in
+    record { upper_bound = r.0; value = r.1 }

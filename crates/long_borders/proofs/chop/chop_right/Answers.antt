@@ -12,29 +12,36 @@ abbrev keys : List ℕ
 keys = 10 ∷ 8 ∷ 7 ∷ 3 ∷ 2 ∷ 1 ∷ []
 
 pub returns-in-1 : goal.returns-in-1
+unfolding chop_right
 returns-in-1 c =
     sym (rw c.in-1.is)
 
 pub returns-in-2 : goal.returns-in-2
+unfolding chop_right
 returns-in-2 c =
     sym (rw c.in-2.is)
 
 pub returns-in-3 : goal.returns-in-3
+unfolding chop_right
 returns-in-3 c =
     sym (rw c.in-3.is)
 
 pub returns-in-7 : goal.returns-in-7
+unfolding chop_right
 returns-in-7 c =
     sym (rw c.in-7.is)
 
 pub returns-in-8 : goal.returns-in-8
+unfolding chop_right
 returns-in-8 c =
     sym (rw c.in-8.is)
 
 pub returns-in-10 : goal.returns-in-10
+unfolding chop_right
 returns-in-10 c =
     sym (rw c.in-10.is)
 
 pub returns-in_default : goal.returns-in_default
+unfolding chop_right
 returns-in_default c =
-    but _ right_arms keys (none_of keys _ c.in_default.in_default-own.rest) zero-le c.ranges.segment tt
+    but _ right_arms keys (none_of keys _ c.in_default.in_default-own.rest) zero-le c.ranges.segment.fits tt

@@ -69,7 +69,8 @@ loop-k-preserved c =
 
 pub returns-in-NoCell : goal.returns-in-NoCell
 returns-in-NoCell c =
-    cell_stops _ _ _ _ _ _ _ _ _ _ _ _ _ _ c.loop-k.invariant.1 c.loop-k.invariant.0 (subst (LaidAt _ _ _) c.in-NoCell.is c.laid_at-laid.ensures) c.ahead_at-rest.ensures c.total_of.ensures
+    let r = cell_stops _ _ _ _ _ _ _ _ _ _ _ _ _ _ c.loop-k.invariant.1 c.loop-k.invariant.0 (subst (LaidAt _ _ _) c.in-NoCell.is c.laid_at-laid.ensures) c.ahead_at-rest.ensures c.total_of.ensures in
+    record { kept_in = r.0; keeps_seats = r.1 }
 
 pub keep_rest-requires : goal.keep_rest-requires
 keep_rest-requires c =
@@ -77,4 +78,5 @@ keep_rest-requires c =
 
 pub returns : goal.returns
 returns c =
-    cell_fills _ _ _ _ _ _ _ _ _ _ _ _ _ c.keep_rest.result c.loop-k.invariant.1 c.ahead_at-rest-2.ensures c.keep_rest.ensures.rest_in c.keep_rest.ensures.keeps_rest
+    let r = cell_fills _ _ _ _ _ _ _ _ _ _ _ _ _ c.keep_rest.result c.loop-k.invariant.1 c.ahead_at-rest-2.ensures c.keep_rest.ensures.rest_in c.keep_rest.ensures.keeps_rest in
+    record { kept_in = r.0; keeps_seats = r.1 }

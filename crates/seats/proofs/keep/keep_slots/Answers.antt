@@ -64,7 +64,8 @@ loop-k-preserved c =
 
 pub returns-in-NoMore : goal.returns-in-NoMore
 returns-in-NoMore c =
-    stops _ _ _ _ _ _ _ _ _ _ _ _ c.loop-k.invariant (subst (NextIn _ _ _) c.in-NoMore.is c.next_slot-next.ensures.next_in) (subst (FindsNext _ _ _) c.in-NoMore.is c.next_slot-next.ensures.finds_next)
+    let r = stops _ _ _ _ _ _ _ _ _ _ _ _ c.loop-k.invariant (subst (NextIn _ _ _) c.in-NoMore.is c.next_slot-next.ensures.next_in) (subst (FindsNext _ _ _) c.in-NoMore.is c.next_slot-next.ensures.finds_next) in
+    record { kept_in = r.0; keeps_seats = r.1 }
 
 pub keep_rest-requires : goal.keep_rest-requires
 keep_rest-requires c =
@@ -72,4 +73,5 @@ keep_rest-requires c =
 
 pub returns : goal.returns
 returns c =
-    fills _ _ _ _ _ _ _ _ _ _ _ c.keep_rest.result c.loop-k.invariant c.keep_rest.ensures.rest_in c.keep_rest.ensures.keeps_rest
+    let r = fills _ _ _ _ _ _ _ _ _ _ _ c.keep_rest.result c.loop-k.invariant c.keep_rest.ensures.rest_in c.keep_rest.ensures.keeps_rest in
+    record { kept_in = r.0; keeps_seats = r.1 }

@@ -27,4 +27,5 @@ loop-seat-preserved c =
 
 pub returns-in-NoMore : goal.returns-in-NoMore
 returns-in-NoMore c =
-    rest_ends _ _ _ _ _ _ _ _ _ c.loop-seat.invariant.1 (subst (NextIn _ _ _) c.in-NoMore.is c.next_slot-next.ensures.next_in) (subst (FindsNext _ _ _) c.in-NoMore.is c.next_slot-next.ensures.finds_next) c.total_width.ensures c.loop-seat.invariant.2
+    let r = rest_ends _ _ _ _ _ _ _ _ _ c.loop-seat.invariant.1 (subst (NextIn _ _ _) c.in-NoMore.is c.next_slot-next.ensures.next_in) (subst (FindsNext _ _ _) c.in-NoMore.is c.next_slot-next.ensures.finds_next) c.total_width.ensures c.loop-seat.invariant.2 in
+    record { survey_in = r.0; looks_rest = r.1 }

@@ -38,7 +38,8 @@ pub returns-then-ahead-pos : goal.returns-then-ahead-pos
 returns-then-ahead-pos c =
     let walked : Walked c.args.cells.now c.args.sheet.now c.args.st c.loop-pos.ahead = c.loop-pos.invariant _ (walk_start _ _ _ _ c.requires c.bring-ahead.ensures.brings_in c.bring-ahead.ensures.brings) in
     let meets : Met c.args.cells.now c.args.sheet.now c.loop-pos.ahead c.hung_seat-seat.result c.in-Hangs.next = met _ _ _ _ _ _ _ _ _ c.hung_seat-seat.ensures (subst (HungIn _ _) c.in-Hangs.is c.hung_at-v.ensures.hung_in) (subst (FindsHung _ _) c.in-Hangs.is c.hung_at-v.ensures.finds_hung) in
-    walk_passes _ _ _ _ c.hung_seat-seat.result _ _ (walked) (meets) c.if-ahead-eq0.false (subst (λ (z : Seat). c.loop-pos.ahead.front.pos < z.pos) (sym c.hung_seat-seat.ensures) c.if-ahead-pos.true) c.given.ensures
+    let r = walk_passes _ _ _ _ c.hung_seat-seat.result _ _ (walked) (meets) c.if-ahead-eq0.false (subst (λ (z : Seat). c.loop-pos.ahead.front.pos < z.pos) (sym c.hung_seat-seat.ensures) c.if-ahead-pos.true) c.given.ensures in
+    record { next_in = r.0; finds_next = r.1 }
 
 pub loop-pos-smaller : goal.loop-pos-smaller
 loop-pos-smaller c =
@@ -54,7 +55,8 @@ loop-pos-preserved c =
 pub returns-then-ahead-eq0-2 : goal.returns-then-ahead-eq0-2
 returns-then-ahead-eq0-2 c =
     let walked : Walked c.args.cells.now c.args.sheet.now c.args.st c.loop-pos.ahead = c.loop-pos.invariant _ (walk_start _ _ _ _ c.requires c.bring-ahead.ensures.brings_in c.bring-ahead.ensures.brings) in
-    walk_end_lem _ _ _ _ _ (walked) (subst (FindsHung _ _) c.in-NoMore.is c.hung_at-v.ensures.finds_hung) c.if-ahead-eq0-2.true c.total_of.ensures
+    let r = walk_end_lem _ _ _ _ _ (walked) (subst (FindsHung _ _) c.in-NoMore.is c.hung_at-v.ensures.finds_hung) c.if-ahead-eq0-2.true c.total_of.ensures in
+    record { next_in = r.0; finds_next = r.1 }
 
 pub given-requires-in-NoMore : goal.given-requires-in-NoMore
 given-requires-in-NoMore c =
@@ -64,4 +66,5 @@ given-requires-in-NoMore c =
 pub returns-in-NoMore : goal.returns-in-NoMore
 returns-in-NoMore c =
     let walked : Walked c.args.cells.now c.args.sheet.now c.args.st c.loop-pos.ahead = c.loop-pos.invariant _ (walk_start _ _ _ _ c.requires c.bring-ahead.ensures.brings_in c.bring-ahead.ensures.brings) in
-    walk_last _ _ _ _ _ (walked) (subst (FindsHung _ _) c.in-NoMore.is c.hung_at-v.ensures.finds_hung) c.if-ahead-eq0-2.false c.given-in-NoMore.ensures
+    let r = walk_last _ _ _ _ _ (walked) (subst (FindsHung _ _) c.in-NoMore.is c.hung_at-v.ensures.finds_hung) c.if-ahead-eq0-2.false c.given-in-NoMore.ensures in
+    record { next_in = r.0; finds_next = r.1 }
