@@ -8,8 +8,3 @@ use Rattle.fields.proofs.width.text_width.Goals as goal
 pub returns-then-n-text : goal.returns-then-n-text
 returns-then-n-text c =
     record { upper_bound = omega arith; value = run_width c.ascii_run-n.ensures.1 c.if-n-text.true }
-
-pub returns : goal.returns
-returns c =
-    let r = c.walked_width.ensures in
-    record { upper_bound = r.0; value = r.1 }
