@@ -1,4 +1,2 @@
-pub mod CallsLine
-pub mod Held
 pub mod Places
 pub mod Walked

@@ -9,6 +9,7 @@ use Rattle.fields.specs.Field.{all}
 use Rattle.fields.specs.Text.{allowed_in, readable_text}
 use Rattle.fields.specs.Sheet.{Piece, str, fragment}
 use Rattle.fields.specs.Widths.{width}
+use Rattle.characters.specs.If.{if◌then◌else◌}
 use Rattle.fields.specs.TaggedLine.{join, push_str, push, consume, push_ws, insert_front, pad_to}
 use Rattle.fields.proofs.Texts.{text_nil}
 use Rattle.fields.proofs.Back.{Every, every_append, every_replicate, every_all}
@@ -130,7 +131,7 @@ pub segs_merge : (side : Side) (b other : List ℕ) (pos : ℕ) → Segs b → S
 unfolding merge_from
 segs_merge side b [] pos h = h
 segs_merge side b (s ∷ other) pos h =
-    segs_merge side _ other (suc pos) (by_if Segs (joins_from side s) (λ _. segs_join side b pos h) (λ _. h))
+    segs_merge side (if joins_from side s then join_on side b pos else b) other (suc pos) (by_if Segs (joins_from side s) (λ _. segs_join side b pos h) (λ _. h))
 
 -- ---- prefixes
 

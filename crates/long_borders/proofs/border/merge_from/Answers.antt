@@ -6,6 +6,7 @@ use lib.ListN.{length}
 use Rattle.long_borders.proofs.Laws.{SoFar, merge_starts, merge_joins, merge_passes, merge_ends}
 use borrow.Author.Rules.{rules}
 use Rattle.long_borders.proofs.border.merge_from.Goals as goal
+use Rattle.long_borders.proofs.border.merge_from.Goals.{then-joins, else-joins}
 
 pub loop-i-init : goal.loop-i-init
 loop-i-init c =
@@ -13,23 +14,22 @@ loop-i-init c =
 
 pub loop-i-preserved : goal.loop-i-preserved
 loop-i-preserved c =
-    ⊎_elim
-    (λ y.
-    let at = y.2.ensures in (
-      search rules,
-      search rules,
-      omega (arith, at.0.0, y.6),
-      omega (arith, at.0.0, y.6),
-      merge_joins c.args.side c.args.border.now c.args.n c.args.other.now c.args.pos c.loop-i.i c.loop-i-test.true (sym c.joins.ensures ∙ y.0.taken) at.1 y.5 y.6 c.loop-i.invariant.4,
-    ))
-    (λ y. (
-      search rules,
-      search rules,
-      search rules,
-      omega (arith, y.2),
-      merge_passes c.args.side c.args.border.now c.args.n c.args.other.now c.args.pos c.loop-i.i c.loop-i-test.true (sym c.joins.ensures ∙ y.0.left) y.1 y.2 c.loop-i.invariant.4,
-    ))
-    c.if-joins.branch
+    elim c.if-joins.branch [
+      then-joins y ↦ (
+        search rules,
+        search rules,
+        omega (arith, y.join_on-k.ensures.value.0, y.k-is),
+        omega (arith, y.join_on-k.ensures.value.0, y.k-is),
+        merge_joins c.args.side c.args.border.now c.args.n c.args.other.now c.args.pos c.loop-i.i c.loop-i-test.true (sym c.joins.ensures ∙ y.if-joins.true) y.join_on-k.ensures.joins_on y.border-is y.k-is c.loop-i.invariant.4,
+      )
+      | else-joins y ↦ (
+        search rules,
+        search rules,
+        search rules,
+        omega (arith, y.k-is),
+        merge_passes c.args.side c.args.border.now c.args.n c.args.other.now c.args.pos c.loop-i.i c.loop-i-test.true (sym c.joins.ensures ∙ y.if-joins.false) y.border-is y.k-is c.loop-i.invariant.4,
+      )
+    ]
 
 pub returns : goal.returns
 returns c =

@@ -1,7 +1,7 @@
 -- `reader::line::line_in` meets its contract: the line of the sheet up to the cell's end, but for names.
 -- Assumes nothing.
 use mathlib.Core.Path.{◌≡◌, refl, ◌∙◌, sym}
-use mathlib.Core.List.{[], ◌∷◌}
+use Prim.Native.Nat.{ℕ}
 use mathlib.Core.Logic.{⊎_elim}
 use native.Mathlib.Omega.{arith}
 use borrow.Author.Rules.{rules}
@@ -16,11 +16,10 @@ use Rattle.reader.proofs.Places.{line_outside, line_inside}
 use Rattle.reader.proofs.line.line_in.Goals as goal
 
 -- What is not the place of a name stands in a cell as in a sheet.
-stays : (l : Line) → OneOf (0 ∷ 1 ∷ 3 ∷ 4 ∷ 5 ∷ []) (tag_of L.the_type l) → l ≡ in_cell l
+stays : (l : Line) → ((place : ℕ) → l ≡ line.Names place → ⊥) → l ≡ in_cell l
 stays (line.Text p end) h = refl
 stays (line.Border a place n holes end) h = refl
-stays (line.Names place) h =
-    absurd (⊎_elim (λ k. omega arith) (⊎_elim (λ k. omega arith) (⊎_elim (λ k. omega arith) (⊎_elim (λ k. omega arith) (λ k. omega arith)))) h)
+stays (line.Names place) h = absurd (h place refl)
 stays (line.Overhang place) h = refl
 stays line.Broken h = refl
 stays line.End h = refl
@@ -39,4 +38,4 @@ returns-in-Names c =
 
 pub returns : goal.returns
 returns c =
-    stays _ c.in_default.in_default-own.keys2 ∙ line_inside _ _ _ _ c.if-sheet-end.false (sym c.line_at-l.ensures)
+    stays _ c.in_default.not-Names ∙ line_inside _ _ _ _ c.if-sheet-end.false (sym c.line_at-l.ensures)
