@@ -28,7 +28,7 @@ slice_bounds-lines-count c =
     ∙ ap₂ first_of (c.first_of-sheets.ensures ∙ ap₂ first_of c.sheet_refusal.ensures c.sheet_refusal-2.ensures)
     (c.first_of-rest.ensures ∙ ap₂ first_of c.prefixes_refusal.ensures c.width_refusal.ensures) in
     let passes : SubrenderPasses c.args.options (read_sheet c.args.sheet.now) (read_sheet c.args.guest.now) (read_prefixes c.args.prefixes.now) c.args.repeats = subrender_passes _ _ _ _ _ _ (number) c.if-n-ne0.false in
-    let guest-at : SheetAt c.args.guest.now c.sheet_parts-theirs.result (passes).guest = c.sheet_parts-theirs.ensures.finds_parts (passes).guest (passes).reads-guest in
+    let guest-at : SheetAt c.args.guest.now c.sheet_parts-theirs.result (passes).guest = c.sheet_parts-theirs.ensures.finds_parts (passes).guest (passes).reads_guest in
     let g = guest-at in omega (arith, g.lines.order, g.names.order)
 
 pub slice_bounds-lines-start : goal.slice_bounds-lines-start
@@ -37,7 +37,7 @@ slice_bounds-lines-start c =
     ∙ ap₂ first_of (c.first_of-sheets.ensures ∙ ap₂ first_of c.sheet_refusal.ensures c.sheet_refusal-2.ensures)
     (c.first_of-rest.ensures ∙ ap₂ first_of c.prefixes_refusal.ensures c.width_refusal.ensures) in
     let passes : SubrenderPasses c.args.options (read_sheet c.args.sheet.now) (read_sheet c.args.guest.now) (read_prefixes c.args.prefixes.now) c.args.repeats = subrender_passes _ _ _ _ _ _ (number) c.if-n-ne0.false in
-    let guest-at : SheetAt c.args.guest.now c.sheet_parts-theirs.result (passes).guest = c.sheet_parts-theirs.ensures.finds_parts (passes).guest (passes).reads-guest in
+    let guest-at : SheetAt c.args.guest.now c.sheet_parts-theirs.result (passes).guest = c.sheet_parts-theirs.ensures.finds_parts (passes).guest (passes).reads_guest in
     let g = guest-at in omega (arith, g.lines.order, g.names.order, g.names.inside)
 
 pub slice_bounds-lines-end : goal.slice_bounds-lines-end
@@ -46,7 +46,7 @@ slice_bounds-lines-end c =
     ∙ ap₂ first_of (c.first_of-sheets.ensures ∙ ap₂ first_of c.sheet_refusal.ensures c.sheet_refusal-2.ensures)
     (c.first_of-rest.ensures ∙ ap₂ first_of c.prefixes_refusal.ensures c.width_refusal.ensures) in
     let passes : SubrenderPasses c.args.options (read_sheet c.args.sheet.now) (read_sheet c.args.guest.now) (read_prefixes c.args.prefixes.now) c.args.repeats = subrender_passes _ _ _ _ _ _ (number) c.if-n-ne0.false in
-    let guest-at : SheetAt c.args.guest.now c.sheet_parts-theirs.result (passes).guest = c.sheet_parts-theirs.ensures.finds_parts (passes).guest (passes).reads-guest in
+    let guest-at : SheetAt c.args.guest.now c.sheet_parts-theirs.result (passes).guest = c.sheet_parts-theirs.ensures.finds_parts (passes).guest (passes).reads_guest in
     let g = guest-at in omega (arith, g.lines.order, g.names.order, g.names.inside)
 
 pub returns-then-guest_misfit : goal.returns-then-guest_misfit
@@ -128,7 +128,7 @@ add_guest-new-requires c =
     (c.first_of-rest.ensures ∙ ap₂ first_of c.prefixes_refusal.ensures c.width_refusal.ensures) in
     let passes : SubrenderPasses c.args.options (read_sheet c.args.sheet.now) (read_sheet c.args.guest.now) (read_prefixes c.args.prefixes.now) c.args.repeats = subrender_passes _ _ _ _ _ _ (number) c.if-n-ne0.false in
     let old_at : SheetAt c.args.sheet.now c.sheet_parts-parts.result (passes).old = c.sheet_parts-parts.ensures.finds_parts (passes).old (passes).reads_old in
-    let guest-at : SheetAt c.args.guest.now c.sheet_parts-theirs.result (passes).guest = c.sheet_parts-theirs.ensures.finds_parts (passes).guest (passes).reads-guest in
+    let guest-at : SheetAt c.args.guest.now c.sheet_parts-theirs.result (passes).guest = c.sheet_parts-theirs.ensures.finds_parts (passes).guest (passes).reads_guest in
     (c.copy_lines-old.ensures.in_bounds.0, omega (arith, c.copy_lines-old.ensures.in_bounds.1, (none_bounds _ c.no_lines.ensures).1, (old_at).few, (guest-at).few))
 
 pub overflow_add-tail : goal.overflow_add-tail
@@ -143,7 +143,7 @@ slice_bounds-hand_on-count c =
     (c.first_of-rest.ensures ∙ ap₂ first_of c.prefixes_refusal.ensures c.width_refusal.ensures) in
     let passes : SubrenderPasses c.args.options (read_sheet c.args.sheet.now) (read_sheet c.args.guest.now) (read_prefixes c.args.prefixes.now) c.args.repeats = subrender_passes _ _ _ _ _ _ (number) c.if-n-ne0.false in
     let old_at : SheetAt c.args.sheet.now c.sheet_parts-parts.result (passes).old = c.sheet_parts-parts.ensures.finds_parts (passes).old (passes).reads_old in
-    let guest-at : SheetAt c.args.guest.now c.sheet_parts-theirs.result (passes).guest = c.sheet_parts-theirs.ensures.finds_parts (passes).guest (passes).reads-guest in
+    let guest-at : SheetAt c.args.guest.now c.sheet_parts-theirs.result (passes).guest = c.sheet_parts-theirs.ensures.finds_parts (passes).guest (passes).reads_guest in
     let tail : c.sheet_parts-parts.result.names + c.add_guest-new.result.from ≤ length c.args.sheet.now = tail_inside _ c.sheet_parts-parts.result _ c.sheet_parts-parts.ensures.parts_in c.add_guest-new.ensures.in_bounds.1 in
     let o = (old_at).names in
     let g = (guest-at).names in
@@ -156,7 +156,7 @@ slice_bounds-hand_on-start c =
     (c.first_of-rest.ensures ∙ ap₂ first_of c.prefixes_refusal.ensures c.width_refusal.ensures) in
     let passes : SubrenderPasses c.args.options (read_sheet c.args.sheet.now) (read_sheet c.args.guest.now) (read_prefixes c.args.prefixes.now) c.args.repeats = subrender_passes _ _ _ _ _ _ (number) c.if-n-ne0.false in
     let old_at : SheetAt c.args.sheet.now c.sheet_parts-parts.result (passes).old = c.sheet_parts-parts.ensures.finds_parts (passes).old (passes).reads_old in
-    let guest-at : SheetAt c.args.guest.now c.sheet_parts-theirs.result (passes).guest = c.sheet_parts-theirs.ensures.finds_parts (passes).guest (passes).reads-guest in
+    let guest-at : SheetAt c.args.guest.now c.sheet_parts-theirs.result (passes).guest = c.sheet_parts-theirs.ensures.finds_parts (passes).guest (passes).reads_guest in
     let tail : c.sheet_parts-parts.result.names + c.add_guest-new.result.from ≤ length c.args.sheet.now = tail_inside _ c.sheet_parts-parts.result _ c.sheet_parts-parts.ensures.parts_in c.add_guest-new.ensures.in_bounds.1 in
     let o = (old_at).names in
     let g = (guest-at).names in

@@ -80,7 +80,7 @@ add_cells-stacked-requires c =
     let number : c.first_of-n.result ≡ vert_row_number c.args.options c.args.sheet.now c.args.cells.now = c.first_of-n.ensures ∙ ap₂ first_of (c.first_of-inputs.ensures ∙ ap₂ first_of c.sheet_refusal.ensures c.plain_cells_refusal.ensures) c.width_refusal.ensures in
     let passes : VertRowPasses c.args.options (read_sheet c.args.sheet.now) (read_plain_cells c.args.cells.now) = vert_row_passes _ _ _ _ (number) c.if-n-ne0.false in
     let old_at : SheetAt c.args.sheet.now c.sheet_parts-parts.result (passes).old = c.sheet_parts-parts.ensures.finds_parts (passes).old (passes).reads_old in
-    (c.copy_lines-old.ensures.in_bounds.0, omega (arith, c.copy_lines-old.ensures.in_bounds.1, (none_bounds _ c.no_lines.ensures).1, (old_at).few), (cells_few _ _ (passes).reads-cells).1)
+    (c.copy_lines-old.ensures.in_bounds.0, omega (arith, c.copy_lines-old.ensures.in_bounds.1, (none_bounds _ c.no_lines.ensures).1, (old_at).few), (cells_few _ _ (passes).reads_cells).1)
 
 pub add_rule_if-lines-requires : goal.add_rule_if-lines-requires
 add_rule_if-lines-requires c =

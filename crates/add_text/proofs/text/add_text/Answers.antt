@@ -17,7 +17,7 @@ loop-code-init c =
 
 pub add_plain-past-requires : goal.add_plain-past-requires
 add_plain-past-requires c =
-    record { walked_small = (record { small = c.loop-code.invariant.small.small; ann = c.loop-code.invariant.small.ann; used = omega arith }, lent_word (lent_same c.requires.counts_within_units.1 c.loop-code.invariant.lb-same c.loop-code.invariant.lt_same c.loop-code.invariant.wb-same c.loop-code.invariant.wt-same)); run_small = (c.requires.run_small.0, omega (arith, part_len c.args.text.now c.loop-code.at, c.loop-code.invariant.inside, c.loop-code.invariant.small.used, c.requires.run_small.1)) }
+    record { walked_small = (record { small = c.loop-code.invariant.small.small; ann = c.loop-code.invariant.small.ann; used = omega arith }, lent_word (lent_same c.requires.counts_within_units.1 c.loop-code.invariant.lb_same c.loop-code.invariant.lt_same c.loop-code.invariant.wb_same c.loop-code.invariant.wt_same)); run_small = (c.requires.run_small.0, omega (arith, part_len c.args.text.now c.loop-code.at, c.loop-code.invariant.inside, c.loop-code.invariant.small.used, c.requires.run_small.1)) }
 
 pub overflow_add-at : goal.overflow_add-at
 overflow_add-at c =
@@ -45,7 +45,7 @@ pub add_char-done-requires : goal.add_char-done-requires
 add_char-done-requires c =
     let i = walking_past c.loop-code.invariant c.add_plain-past.result _ _ c.add_plain-past.ensures.adds_plain c.add_plain-past.ensures.len_in_bounds.0 c.add_plain-past.ensures.len_in_bounds.1 (search rules) (search rules) in
     let e = sym c.decode-d.ensures ∙ c.in-Char.is in
-    record { ready = (char-ready i _ _ e c.requires.run_small.1, lent_same c.requires.counts_within_units.1 i.lb-same i.lt_same i.wb-same i.wt-same); char_is = (char_is i _ _ e, c.requires.run_small.0) }
+    record { ready = (char-ready i _ _ e c.requires.run_small.1, lent_same c.requires.counts_within_units.1 i.lb_same i.lt_same i.wb_same i.wt_same); char_is = (char_is i _ _ e, c.requires.run_small.0) }
 
 pub loop-code-smaller : goal.loop-code-smaller
 loop-code-smaller c =
@@ -62,7 +62,7 @@ loop-code-preserved c =
 pub shape_of-lb-in-Narrow : goal.shape_of-lb-in-Narrow
 shape_of-lb-in-Narrow c =
     let i = walking_past c.loop-code.invariant c.add_plain-past.result _ _ c.add_plain-past.ensures.adds_plain c.add_plain-past.ensures.len_in_bounds.0 c.add_plain-past.ensures.len_in_bounds.1 (search rules) (search rules) in
-    after i.lb-same (search rules)
+    after i.lb_same (search rules)
 
 pub shape_of-lt-in-Narrow : goal.shape_of-lt-in-Narrow
 shape_of-lt-in-Narrow c =
@@ -72,17 +72,17 @@ shape_of-lt-in-Narrow c =
 pub shape_of-wb-in-Narrow : goal.shape_of-wb-in-Narrow
 shape_of-wb-in-Narrow c =
     let i = walking_past c.loop-code.invariant c.add_plain-past.result _ _ c.add_plain-past.ensures.adds_plain c.add_plain-past.ensures.len_in_bounds.0 c.add_plain-past.ensures.len_in_bounds.1 (search rules) (search rules) in
-    after i.wb-same (search rules)
+    after i.wb_same (search rules)
 
 pub shape_of-wt-in-Narrow : goal.shape_of-wt-in-Narrow
 shape_of-wt-in-Narrow c =
     let i = walking_past c.loop-code.invariant c.add_plain-past.result _ _ c.add_plain-past.ensures.adds_plain c.add_plain-past.ensures.len_in_bounds.0 c.add_plain-past.ensures.len_in_bounds.1 (search rules) (search rules) in
-    after i.wt-same (search rules)
+    after i.wt_same (search rules)
 
 pub shape_of-out-in-Narrow : goal.shape_of-out-in-Narrow
 shape_of-out-in-Narrow c =
     let i = walking_past c.loop-code.invariant c.add_plain-past.result _ _ c.add_plain-past.ensures.adds_plain c.add_plain-past.ensures.len_in_bounds.0 c.add_plain-past.ensures.len_in_bounds.1 (search rules) (search rules) in
-    after i.out-same (search rules)
+    after i.out_same (search rules)
 
 pub returns-in-Narrow : goal.returns-in-Narrow
 returns-in-Narrow c =

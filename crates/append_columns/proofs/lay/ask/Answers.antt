@@ -19,8 +19,8 @@ row_fit-fit-requires c =
 
 pub returns-then-fit : goal.returns-then-fit
 returns-then-fit c =
-    λ o xs full l v. asked_ten o _ _ _ xs full v _ c.no_border_above.ensures false _ c.if-no_border_above.false (c.row_fit-fit.ensures o xs full l v.height-is) c.if-fit.true
+    λ o xs full l v. asked_ten o _ _ _ xs full v _ c.no_border_above.ensures false _ c.if-no_border_above.false (c.row_fit-fit.ensures o xs full l v.height_is) c.if-fit.true
 
 pub returns : goal.returns
 returns c =
-    λ o xs full l v. asked_fits o _ _ _ xs full v _ c.no_border_above.ensures _ c.if-no_border_above.false (c.row_fit-fit.ensures o xs full l v.height-is) c.if-fit.false
+    λ o xs full l v. asked_fits o _ _ _ xs full v _ c.no_border_above.ensures _ c.if-no_border_above.false (c.row_fit-fit.ensures o xs full l v.height_is) c.if-fit.false

@@ -18,7 +18,7 @@ returns-then-asked-ne0 c =
 
 pub add_all-requires : goal.add_all-requires
 add_all-requires c =
-    record { old_in = (c.requires, row_in _ _ _ _ _ _ _ _ _ c.keep_seats-kept.ensures.kept_in); narrow = ((λ i h. ((c.keep_seats-kept.ensures.kept_in.seats-in i h).narrow, (c.keep_seats-kept.ensures.kept_in.seats-in i h).fill)), c.first_slots-first.ensures.slots_in, c.survey-s.ensures.survey_in) }
+    record { old_in = (c.requires, row_in _ _ _ _ _ _ _ _ _ c.keep_seats-kept.ensures.kept_in); narrow = ((λ i h. ((c.keep_seats-kept.ensures.kept_in.seats_in i h).narrow, (c.keep_seats-kept.ensures.kept_in.seats_in i h).fill)), c.first_slots-first.ensures.slots_in, c.survey-s.ensures.survey_in) }
 
 pub returns : goal.returns
 returns c =

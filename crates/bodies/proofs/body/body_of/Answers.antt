@@ -12,15 +12,15 @@ returns-then-not-collapse c =
 
 pub bounds-s-last : goal.bounds-s-last
 bounds-s-last c =
-    omega (arith, c.walk_lines-w-2.ensures.walked_in.last-in.inside c.if-last-end.true)
+    omega (arith, c.walk_lines-w-2.ensures.walked_in.last_in.inside c.if-last-end.true)
 
 pub overflow_sub-result : goal.overflow_sub-result
 overflow_sub-result c =
-    omega (arith, c.walk_lines-w-2.ensures.walked_in.some-there c.if-last-end.true)
+    omega (arith, c.walk_lines-w-2.ensures.walked_in.some_there c.if-last-end.true)
 
 pub returns-then-s-last-ne76 : goal.returns-then-s-last-ne76
 returns-then-s-last-ne76 c =
-    let h = c.past_top-from.ensures.top_in.high c.requires in record { body_in = record { low = c.past_top-from.ensures.top_in.low; order = c.walk_lines-w-2.ensures.walked_in.last-in.low h; stops = c.walk_lines-w-2.ensures.walked_in.last-in.high; stop_is = refl; few = omega (arith, c.past_top-from.ensures.top_in.low, c.walk_lines-w-2.ensures.walked_in.few) }; finds_body = body_off _ _ _ _ _ c.walk_lines-w-2.result (not-false _ c.if-not-collapse.false-raw) c.past_top-from.ensures.passes_top c.walk_lines-w-2.ensures.walks c.if-last-end.true c.if-s-last-ne76.true }
+    let h = c.past_top-from.ensures.top_in.high c.requires in record { body_in = record { low = c.past_top-from.ensures.top_in.low; order = c.walk_lines-w-2.ensures.walked_in.last_in.low h; stops = c.walk_lines-w-2.ensures.walked_in.last_in.high; stop_is = refl; few = omega (arith, c.past_top-from.ensures.top_in.low, c.walk_lines-w-2.ensures.walked_in.few) }; finds_body = body_off _ _ _ _ _ c.walk_lines-w-2.result (not-false _ c.if-not-collapse.false-raw) c.past_top-from.ensures.passes_top c.walk_lines-w-2.ensures.walks c.if-last-end.true c.if-s-last-ne76.true }
 
 pub returns-else-s-last-ne76 : goal.returns-else-s-last-ne76
 returns-else-s-last-ne76 c =

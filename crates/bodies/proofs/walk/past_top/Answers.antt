@@ -12,7 +12,7 @@ returns-then-to-from c =
 
 pub returns-then-next-to : goal.returns-then-next-to
 returns-then-next-to c =
-    record { top_in = record { low = omega (arith, (found_at _ _ _ _ _ (sym c.field_at-f.ensures.value ∙ c.in-At.is)).next-is); high = λ h. c.if-next-to.true }; passes_top = top_border _ _ _ _ _ _ c.if-to-from.false (sym c.field_at-f.ensures.value ∙ c.in-At.is) c.if-letter-ne76.true }
+    record { top_in = record { low = omega (arith, (found_at _ _ _ _ _ (sym c.field_at-f.ensures.value ∙ c.in-At.is)).next_is); high = λ h. c.if-next-to.true }; passes_top = top_border _ _ _ _ _ _ c.if-to-from.false (sym c.field_at-f.ensures.value ∙ c.in-At.is) c.if-letter-ne76.true }
 
 pub returns-else-next-to : goal.returns-else-next-to
 returns-else-next-to c =

@@ -29,7 +29,7 @@ loop-i-smaller c =
 
 pub loop-i-preserved : goal.loop-i-preserved
 loop-i-preserved c =
-    let e = sym c.field_at-f.ensures.value ∙ c.in-At.is in let f = found_at _ _ _ _ _ e in (omega (arith, c.loop-i.invariant.0, f.next-is), λ h. c.if-end-next.false, omega (arith, c.loop-i-test.true), skip_on _ _ _ c.loop-i.i _ _ _ _ c.loop-i.invariant.3 c.if-end-p.false e)
+    let e = sym c.field_at-f.ensures.value ∙ c.in-At.is in let f = found_at _ _ _ _ _ e in (omega (arith, c.loop-i.invariant.0, f.next_is), λ h. c.if-end-next.false, omega (arith, c.loop-i-test.true), skip_on _ _ _ c.loop-i.i _ _ _ _ c.loop-i.invariant.3 c.if-end-p.false e)
 
 pub returns-in-Broken : goal.returns-in-Broken
 returns-in-Broken c =

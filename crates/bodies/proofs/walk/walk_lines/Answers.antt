@@ -17,7 +17,7 @@ overflow_add-count c =
 
 pub loop-at-smaller : goal.loop-at-smaller
 loop-at-smaller c =
-    let f = found_at _ _ _ _ _ (sym c.field_at-f.ensures.value ∙ c.in-At.is) in omega (arith, f.next-is)
+    let f = found_at _ _ _ _ _ (sym c.field_at-f.ensures.value ∙ c.in-At.is) in omega (arith, f.next_is)
 
 pub loop-at-preserved : goal.loop-at-preserved
 loop-at-preserved c =

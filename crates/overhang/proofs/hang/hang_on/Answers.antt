@@ -24,7 +24,7 @@ next_slot-slot-requires c =
 
 pub hang_seat-next-requires : goal.hang_seat-next-requires
 hang_seat-next-requires c =
-    (omega (arith, c.if-next-gt11529215046068469760.false), (subst (NextIn _ _ _) c.in-Is.is c.next_slot-slot.ensures.next_in).seat-in, c.requires)
+    (omega (arith, c.if-next-gt11529215046068469760.false), (subst (NextIn _ _ _) c.in-Is.is c.next_slot-slot.ensures.next_in).seat_in, c.requires)
 
 pub loop-next-smaller : goal.loop-next-smaller
 loop-next-smaller c =

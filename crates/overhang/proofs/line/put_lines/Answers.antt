@@ -18,19 +18,19 @@ pub slice_bounds-put_filled-count : goal.slice_bounds-put_filled-count
 slice_bounds-put_filled-count c =
     let told : field_at c.loop-at.at (drop c.loop-at.at c.args.s.now) ≡ At c.in-At.letter c.in-At.start c.in-At.next = sym c.field_at-f.ensures.value ∙ c.in-At.is in
     let found : FoundAt c.args.s.now c.loop-at.at c.in-At.letter c.in-At.start c.in-At.next = found_at _ _ _ _ _ (told) in
-    let f = found in omega (arith, f.start_is, f.next-is)
+    let f = found in omega (arith, f.start_is, f.next_is)
 
 pub slice_bounds-put_filled-start : goal.slice_bounds-put_filled-start
 slice_bounds-put_filled-start c =
     let told : field_at c.loop-at.at (drop c.loop-at.at c.args.s.now) ≡ At c.in-At.letter c.in-At.start c.in-At.next = sym c.field_at-f.ensures.value ∙ c.in-At.is in
     let found : FoundAt c.args.s.now c.loop-at.at c.in-At.letter c.in-At.start c.in-At.next = found_at _ _ _ _ _ (told) in
-    let f = found in omega (arith, f.start_is, f.next-is, f.inside)
+    let f = found in omega (arith, f.start_is, f.next_is, f.inside)
 
 pub slice_bounds-put_filled-end : goal.slice_bounds-put_filled-end
 slice_bounds-put_filled-end c =
     let told : field_at c.loop-at.at (drop c.loop-at.at c.args.s.now) ≡ At c.in-At.letter c.in-At.start c.in-At.next = sym c.field_at-f.ensures.value ∙ c.in-At.is in
     let found : FoundAt c.args.s.now c.loop-at.at c.in-At.letter c.in-At.start c.in-At.next = found_at _ _ _ _ _ (told) in
-    let f = found in omega (arith, f.start_is, f.next-is, f.inside)
+    let f = found in omega (arith, f.start_is, f.next_is, f.inside)
 
 pub put_filled-out_at-requires : goal.put_filled-out_at-requires
 put_filled-out_at-requires c =
@@ -43,7 +43,7 @@ pub loop-at-smaller : goal.loop-at-smaller
 loop-at-smaller c =
     let told : field_at c.loop-at.at (drop c.loop-at.at c.args.s.now) ≡ At c.in-At.letter c.in-At.start c.in-At.next = sym c.field_at-f.ensures.value ∙ c.in-At.is in
     let found : FoundAt c.args.s.now c.loop-at.at c.in-At.letter c.in-At.start c.in-At.next = found_at _ _ _ _ _ (told) in
-    let f = found in omega (arith, f.next-is)
+    let f = found in omega (arith, f.next_is)
 
 pub loop-at-preserved : goal.loop-at-preserved
 loop-at-preserved c =

@@ -7,7 +7,7 @@ use Rattle.row_borders.proofs.join.join_next.Goals as goal
 
 pub advance-end-requires : goal.advance-end-requires
 advance-end-requires c =
-    (c.requires.0.pos-low, omega (arith, c.requires.1))
+    (c.requires.0.pos_low, omega (arith, c.requires.1))
 
 pub advance-pos-requires : goal.advance-pos-requires
 advance-pos-requires c =

@@ -17,7 +17,7 @@ next_slot-next-requires c =
 
 pub join_next-joined-requires : goal.join_next-joined-requires
 join_next-joined-requires c =
-    let i = subst (NextIn _ _ _) c.in-Is.is c.next_slot-next.ensures.next_in in (c.loop-seat.invariant.2, omega (arith, i.seat-in.reaches))
+    let i = subst (NextIn _ _ _) c.in-Is.is c.next_slot-next.ensures.next_in in (c.loop-seat.invariant.2, omega (arith, i.seat_in.reaches))
 
 pub loop-seat-smaller : goal.loop-seat-smaller
 loop-seat-smaller c =

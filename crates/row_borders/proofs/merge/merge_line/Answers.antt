@@ -20,12 +20,12 @@ returns-then-letter-eq76 c =
 pub slice_bounds-border_parts-count : goal.slice_bounds-border_parts-count
 slice_bounds-border_parts-count c =
     let found : FoundAt c.args.s.now c.args.at c.in-At.letter c.in-At.start c.in-At.next = found_at _ _ _ _ _ (sym c.field_at-f.ensures.value ∙ c.in-At.is) in
-    let f = found in omega (arith, f.start_is, f.next-is)
+    let f = found in omega (arith, f.start_is, f.next_is)
 
 pub slice_bounds-border_parts-start : goal.slice_bounds-border_parts-start
 slice_bounds-border_parts-start c =
     let found : FoundAt c.args.s.now c.args.at c.in-At.letter c.in-At.start c.in-At.next = found_at _ _ _ _ _ (sym c.field_at-f.ensures.value ∙ c.in-At.is) in
-    let f = found in omega (arith, f.start_is, f.next-is)
+    let f = found in omega (arith, f.start_is, f.next_is)
 
 pub slice_bounds-border_parts-end : goal.slice_bounds-border_parts-end
 slice_bounds-border_parts-end c =
@@ -37,7 +37,7 @@ overflow_add-from c =
     let found : FoundAt c.args.s.now c.args.at c.in-At.letter c.in-At.start c.in-At.next = found_at _ _ _ _ _ (sym c.field_at-f.ensures.value ∙ c.in-At.is) in
     let short : c.in-At.next < c.in-At.start + 65536 = subst Short c.in-At.is c.field_at-f.ensures.short in
     let f = found in
-    let q = segs_in _ _ _ c.border_parts-parts.result c.border_parts-parts.ensures.parts_in (omega (arith, f.start_is, f.next-is)) f.inside in
+    let q = segs_in _ _ _ c.border_parts-parts.result c.border_parts-parts.ensures.parts_in (omega (arith, f.start_is, f.next_is)) f.inside in
     record { fits = omega (arith, q.0, q.1, short, f.inside) }
 
 pub overflow_add-to : goal.overflow_add-to
@@ -45,7 +45,7 @@ overflow_add-to c =
     let found : FoundAt c.args.s.now c.args.at c.in-At.letter c.in-At.start c.in-At.next = found_at _ _ _ _ _ (sym c.field_at-f.ensures.value ∙ c.in-At.is) in
     let short : c.in-At.next < c.in-At.start + 65536 = subst Short c.in-At.is c.field_at-f.ensures.short in
     let f = found in
-    let q = segs_in _ _ _ c.border_parts-parts.result c.border_parts-parts.ensures.parts_in (omega (arith, f.start_is, f.next-is)) f.inside in
+    let q = segs_in _ _ _ c.border_parts-parts.result c.border_parts-parts.ensures.parts_in (omega (arith, f.start_is, f.next_is)) f.inside in
     record { fits = omega (arith, q.0, q.1, short, f.inside) }
 
 pub slice_bounds-merge_from-count : goal.slice_bounds-merge_from-count
@@ -60,7 +60,7 @@ pub slice_bounds-merge_from-end : goal.slice_bounds-merge_from-end
 slice_bounds-merge_from-end c =
     let found : FoundAt c.args.s.now c.args.at c.in-At.letter c.in-At.start c.in-At.next = found_at _ _ _ _ _ (sym c.field_at-f.ensures.value ∙ c.in-At.is) in
     let f = found in
-    let q = segs_in _ _ _ c.border_parts-parts.result c.border_parts-parts.ensures.parts_in (omega (arith, f.start_is, f.next-is)) f.inside in
+    let q = segs_in _ _ _ c.border_parts-parts.result c.border_parts-parts.ensures.parts_in (omega (arith, f.start_is, f.next_is)) f.inside in
     omega (arith, q.1, f.inside)
 
 pub merge_from-requires : goal.merge_from-requires
@@ -68,7 +68,7 @@ merge_from-requires c =
     let found : FoundAt c.args.s.now c.args.at c.in-At.letter c.in-At.start c.in-At.next = found_at _ _ _ _ _ (sym c.field_at-f.ensures.value ∙ c.in-At.is) in
     let short : c.in-At.next < c.in-At.start + 65536 = subst Short c.in-At.is c.field_at-f.ensures.short in
     let f = found in
-    let q = segs_in _ _ _ c.border_parts-parts.result c.border_parts-parts.ensures.parts_in (omega (arith, f.start_is, f.next-is)) f.inside in
+    let q = segs_in _ _ _ c.border_parts-parts.result c.border_parts-parts.ensures.parts_in (omega (arith, f.start_is, f.next_is)) f.inside in
     let n = part_length (c.in-At.start + c.border_parts-parts.result.segs) (c.in-At.start + c.border_parts-parts.result.holes) c.args.s.now (omega (arith, q.1, f.inside)) in
     omega (arith, c.requires, n, q.0, q.1, short, f.start_is)
 

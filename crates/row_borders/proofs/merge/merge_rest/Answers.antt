@@ -17,15 +17,15 @@ next_slot-next-requires c =
 
 pub merge_seat-merged-requires : goal.merge_seat-merged-requires
 merge_seat-merged-requires c =
-    let i = subst (NextIn _ _ _) c.in-Is.is c.next_slot-next.ensures.next_in in (i.seat-in.order, c.loop-seat.invariant.2)
+    let i = subst (NextIn _ _ _) c.in-Is.is c.next_slot-next.ensures.next_in in (i.seat_in.order, c.loop-seat.invariant.2)
 
 pub overflow_add-seat : goal.overflow_add-seat
 overflow_add-seat c =
-    let i = subst (NextIn _ _ _) c.in-Is.is c.next_slot-next.ensures.next_in in record { fits = omega (arith, i.seat-in.reaches) }
+    let i = subst (NextIn _ _ _) c.in-Is.is c.next_slot-next.ensures.next_in in record { fits = omega (arith, i.seat_in.reaches) }
 
 pub advance-pos-requires : goal.advance-pos-requires
 advance-pos-requires c =
-    let i = subst (NextIn _ _ _) c.in-Is.is c.next_slot-next.ensures.next_in in (c.loop-seat.invariant.2, omega (arith, i.seat-in.reaches))
+    let i = subst (NextIn _ _ _) c.in-Is.is c.next_slot-next.ensures.next_in in (c.loop-seat.invariant.2, omega (arith, i.seat_in.reaches))
 
 pub loop-seat-smaller : goal.loop-seat-smaller
 loop-seat-smaller c =

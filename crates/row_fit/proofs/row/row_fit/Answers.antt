@@ -18,11 +18,11 @@ next_slot-n-requires c =
 
 pub fit_of-fit-requires : goal.fit_of-fit-requires
 fit_of-fit-requires c =
-    (subst (NextIn _ _ _) c.in-Is.is c.next_slot-n.ensures.next_in).seat-in
+    (subst (NextIn _ _ _) c.in-Is.is c.next_slot-n.ensures.next_in).seat_in
 
 pub reach_on-r-requires : goal.reach_on-r-requires
 reach_on-r-requires c =
-    (c.loop-seat.invariant.near, c.fit_of-fit.ensures.fit_in, seat_wide _ _ _ (subst (NextIn _ _ _) c.in-Is.is c.next_slot-n.ensures.next_in).seat-in)
+    (c.loop-seat.invariant.near, c.fit_of-fit.ensures.fit_in, seat_wide _ _ _ (subst (NextIn _ _ _) c.in-Is.is c.next_slot-n.ensures.next_in).seat_in)
 
 pub loop-seat-smaller : goal.loop-seat-smaller
 loop-seat-smaller c =

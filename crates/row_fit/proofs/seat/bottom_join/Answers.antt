@@ -13,15 +13,15 @@ returns-then-stop-end c =
 
 pub slice_bounds-border_parts-count : goal.slice_bounds-border_parts-count
 slice_bounds-border_parts-count c =
-    let f = found_at _ _ _ _ _ (sym c.field_at-f.ensures.value ∙ c.in-At.is) in omega (arith, f.next-is, f.start_is)
+    let f = found_at _ _ _ _ _ (sym c.field_at-f.ensures.value ∙ c.in-At.is) in omega (arith, f.next_is, f.start_is)
 
 pub slice_bounds-border_parts-start : goal.slice_bounds-border_parts-start
 slice_bounds-border_parts-start c =
-    let f = found_at _ _ _ _ _ (sym c.field_at-f.ensures.value ∙ c.in-At.is) in omega (arith, f.next-is, f.start_is, f.inside)
+    let f = found_at _ _ _ _ _ (sym c.field_at-f.ensures.value ∙ c.in-At.is) in omega (arith, f.next_is, f.start_is, f.inside)
 
 pub slice_bounds-border_parts-end : goal.slice_bounds-border_parts-end
 slice_bounds-border_parts-end c =
-    let f = found_at _ _ _ _ _ (sym c.field_at-f.ensures.value ∙ c.in-At.is) in omega (arith, f.next-is, f.start_is, f.inside)
+    let f = found_at _ _ _ _ _ (sym c.field_at-f.ensures.value ∙ c.in-At.is) in omega (arith, f.next_is, f.start_is, f.inside)
 
 pub overflow_add-from : goal.overflow_add-from
 overflow_add-from c =

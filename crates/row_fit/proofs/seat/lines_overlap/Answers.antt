@@ -17,15 +17,15 @@ returns-then-end-p c =
 
 pub slice_bounds-line_overlaps-count : goal.slice_bounds-line_overlaps-count
 slice_bounds-line_overlaps-count c =
-    let f = found_at _ _ _ _ _ (sym c.field_at-f.ensures.value ∙ c.in-At.is) in omega (arith, f.next-is, f.start_is)
+    let f = found_at _ _ _ _ _ (sym c.field_at-f.ensures.value ∙ c.in-At.is) in omega (arith, f.next_is, f.start_is)
 
 pub slice_bounds-line_overlaps-start : goal.slice_bounds-line_overlaps-start
 slice_bounds-line_overlaps-start c =
-    let f = found_at _ _ _ _ _ (sym c.field_at-f.ensures.value ∙ c.in-At.is) in omega (arith, f.next-is, f.start_is, f.inside)
+    let f = found_at _ _ _ _ _ (sym c.field_at-f.ensures.value ∙ c.in-At.is) in omega (arith, f.next_is, f.start_is, f.inside)
 
 pub slice_bounds-line_overlaps-end : goal.slice_bounds-line_overlaps-end
 slice_bounds-line_overlaps-end c =
-    let f = found_at _ _ _ _ _ (sym c.field_at-f.ensures.value ∙ c.in-At.is) in omega (arith, f.next-is, f.start_is, f.inside)
+    let f = found_at _ _ _ _ _ (sym c.field_at-f.ensures.value ∙ c.in-At.is) in omega (arith, f.next_is, f.start_is, f.inside)
 
 pub line_overlaps-requires : goal.line_overlaps-requires
 line_overlaps-requires c =

@@ -13,15 +13,15 @@ returns-then-end-p c =
 
 pub slice_bounds-line_cols-count : goal.slice_bounds-line_cols-count
 slice_bounds-line_cols-count c =
-    let f = found_at _ _ _ _ _ (sym c.field_at-f.ensures.value ∙ c.in-At.is) in omega (arith, f.next-is, f.start_is)
+    let f = found_at _ _ _ _ _ (sym c.field_at-f.ensures.value ∙ c.in-At.is) in omega (arith, f.next_is, f.start_is)
 
 pub slice_bounds-line_cols-start : goal.slice_bounds-line_cols-start
 slice_bounds-line_cols-start c =
-    let f = found_at _ _ _ _ _ (sym c.field_at-f.ensures.value ∙ c.in-At.is) in omega (arith, f.next-is, f.start_is, f.inside)
+    let f = found_at _ _ _ _ _ (sym c.field_at-f.ensures.value ∙ c.in-At.is) in omega (arith, f.next_is, f.start_is, f.inside)
 
 pub slice_bounds-line_cols-end : goal.slice_bounds-line_cols-end
 slice_bounds-line_cols-end c =
-    let f = found_at _ _ _ _ _ (sym c.field_at-f.ensures.value ∙ c.in-At.is) in omega (arith, f.next-is, f.start_is, f.inside)
+    let f = found_at _ _ _ _ _ (sym c.field_at-f.ensures.value ∙ c.in-At.is) in omega (arith, f.next_is, f.start_is, f.inside)
 
 pub line_cols-requires : goal.line_cols-requires
 line_cols-requires c =

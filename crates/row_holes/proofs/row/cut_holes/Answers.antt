@@ -16,15 +16,15 @@ next_slot-found-requires c =
 
 pub cut_one-n-requires : goal.cut_one-n-requires
 cut_one-n-requires c =
-    ((subst (NextIn _ _ _) c.in-Is.is c.next_slot-found.ensures.next_in).seat-in, c.loop-seat.invariant.0.pos-low, omega (arith, c.loop-seat.invariant.2, c.requires.1))
+    ((subst (NextIn _ _ _) c.in-Is.is c.next_slot-found.ensures.next_in).seat_in, c.loop-seat.invariant.0.pos_low, omega (arith, c.loop-seat.invariant.2, c.requires.1))
 
 pub overflow_add-seat : goal.overflow_add-seat
 overflow_add-seat c =
-    let i = (subst (NextIn _ _ _) c.in-Is.is c.next_slot-found.ensures.next_in).seat-in in omega (arith, i.reaches)
+    let i = (subst (NextIn _ _ _) c.in-Is.is c.next_slot-found.ensures.next_in).seat_in in omega (arith, i.reaches)
 
 pub advance-pos-requires : goal.advance-pos-requires
 advance-pos-requires c =
-    let i = (subst (NextIn _ _ _) c.in-Is.is c.next_slot-found.ensures.next_in).seat-in in (c.loop-seat.invariant.0.pos-low, omega (arith, i.reaches))
+    let i = (subst (NextIn _ _ _) c.in-Is.is c.next_slot-found.ensures.next_in).seat_in in (c.loop-seat.invariant.0.pos_low, omega (arith, i.reaches))
 
 pub loop-seat-smaller : goal.loop-seat-smaller
 loop-seat-smaller c =

@@ -16,7 +16,7 @@ next_slot-found-requires c =
 
 pub put_one-p-requires : goal.put_one-p-requires
 put_one-p-requires c =
-    ((subst (NextIn _ _ _) c.in-Is.is c.next_slot-found.ensures.next_in).seat-in, c.loop-seat.invariant.0.pos-low, omega (arith, c.loop-seat.invariant.2, c.requires.1), c.loop-seat.invariant.0.on, c.requires.3)
+    ((subst (NextIn _ _ _) c.in-Is.is c.next_slot-found.ensures.next_in).seat_in, c.loop-seat.invariant.0.pos_low, omega (arith, c.loop-seat.invariant.2, c.requires.1), c.loop-seat.invariant.0.on, c.requires.3)
 
 pub returns-then-p : goal.returns-then-p
 returns-then-p c =
@@ -24,11 +24,11 @@ returns-then-p c =
 
 pub overflow_add-seat : goal.overflow_add-seat
 overflow_add-seat c =
-    let i = (subst (NextIn _ _ _) c.in-Is.is c.next_slot-found.ensures.next_in).seat-in in omega (arith, i.reaches)
+    let i = (subst (NextIn _ _ _) c.in-Is.is c.next_slot-found.ensures.next_in).seat_in in omega (arith, i.reaches)
 
 pub advance-pos-requires : goal.advance-pos-requires
 advance-pos-requires c =
-    let i = (subst (NextIn _ _ _) c.in-Is.is c.next_slot-found.ensures.next_in).seat-in in (c.loop-seat.invariant.0.pos-low, omega (arith, i.reaches))
+    let i = (subst (NextIn _ _ _) c.in-Is.is c.next_slot-found.ensures.next_in).seat_in in (c.loop-seat.invariant.0.pos_low, omega (arith, i.reaches))
 
 pub loop-seat-smaller : goal.loop-seat-smaller
 loop-seat-smaller c =

@@ -24,15 +24,15 @@ next_slot-found-requires c =
 
 pub push_one-line-requires : goal.push_one-line-requires
 push_one-line-requires c =
-    (text-room _ _ c.args.annotation _ _ _ _ c.args.collapse c.args.height _ _ _ _ c.loop-st.invariant (start_low c.args.lines _ c.new_line-line.ensures c.requires.0), c.requires.1, (subst (NextIn _ _ _) c.in-Is.is c.next_slot-found.ensures.next_in).seat-in)
+    (text-room _ _ c.args.annotation _ _ _ _ c.args.collapse c.args.height _ _ _ _ c.loop-st.invariant (start_low c.args.lines _ c.new_line-line.ensures c.requires.0), c.requires.1, (subst (NextIn _ _ _) c.in-Is.is c.next_slot-found.ensures.next_in).seat_in)
 
 pub overflow_add-seat : goal.overflow_add-seat
 overflow_add-seat c =
-    let i = (subst (NextIn _ _ _) c.in-Is.is c.next_slot-found.ensures.next_in).seat-in in omega (arith, i.reaches)
+    let i = (subst (NextIn _ _ _) c.in-Is.is c.next_slot-found.ensures.next_in).seat_in in omega (arith, i.reaches)
 
 pub advance-x-requires : goal.advance-x-requires
 advance-x-requires c =
-    let i = (subst (NextIn _ _ _) c.in-Is.is c.next_slot-found.ensures.next_in).seat-in in (omega (arith, c.loop-st.invariant.x-low, i.place), omega (arith, i.reaches))
+    let i = (subst (NextIn _ _ _) c.in-Is.is c.next_slot-found.ensures.next_in).seat_in in (omega (arith, c.loop-st.invariant.x_low, i.place), omega (arith, i.reaches))
 
 pub loop-st-smaller : goal.loop-st-smaller
 loop-st-smaller c =

@@ -10,11 +10,11 @@ loop-seat-init c =
 
 pub next_slot-next-requires : goal.next_slot-next-requires
 next_slot-next-requires c =
-    c.loop-seat.invariant.slots-in
+    c.loop-seat.invariant.slots_in
 
 pub start_mark-k-requires : goal.start_mark-k-requires
 start_mark-k-requires c =
-    (subst (NextIn _ _ _) c.in-Is.is c.next_slot-next.ensures.next_in).seat-in
+    (subst (NextIn _ _ _) c.in-Is.is c.next_slot-next.ensures.next_in).seat_in
 
 pub loop-seat-smaller : goal.loop-seat-smaller
 loop-seat-smaller c =

@@ -19,7 +19,7 @@ returns-then-is_long c =
 
 pub next_slot-next-requires : goal.next_slot-next-requires
 next_slot-next-requires c =
-    c.loop-options.invariant.slots-in
+    c.loop-options.invariant.slots_in
 
 pub open_seat-edged-requires : goal.open_seat-edged-requires
 open_seat-edged-requires c =
@@ -27,7 +27,7 @@ open_seat-edged-requires c =
 
 pub add_found-a-requires : goal.add_found-a-requires
 add_found-a-requires c =
-    (rest-room _ _ _ c.args.options _ _ _ c.args.collapse _ c.args.i _ _ _ _ _ _ _ c.loop-options.invariant _ (start_below c.args.lines _ c.requires.1 c.requires.0) c.open_seat-edged.ensures.line_grown, (subst (NextIn _ _ _) c.in-Is.is c.next_slot-next.ensures.next_in).seat-in)
+    (rest-room _ _ _ c.args.options _ _ _ c.args.collapse _ c.args.i _ _ _ _ _ _ _ c.loop-options.invariant _ (start_below c.args.lines _ c.requires.1 c.requires.0) c.open_seat-edged.ensures.line_grown, (subst (NextIn _ _ _) c.in-Is.is c.next_slot-next.ensures.next_in).seat_in)
 
 pub loop-options-smaller : goal.loop-options-smaller
 loop-options-smaller c =

@@ -15,17 +15,17 @@ returns-then-hung c =
 pub slice_bounds-add_cell_text-count : goal.slice_bounds-add_cell_text-count
 slice_bounds-add_cell_text-count c =
     let there : c.text_at-t.result.found ≡ true → TextIs c.args.cells.now c.args.at c.args.end c.text_at-t.result = λ e. c.text_at-t.ensures e in
-    let t = there c.if-t.true in let f = found_at _ _ _ _ _ t.field in omega (arith, f.start_is, f.next-is)
+    let t = there c.if-t.true in let f = found_at _ _ _ _ _ t.field in omega (arith, f.start_is, f.next_is)
 
 pub slice_bounds-add_cell_text-start : goal.slice_bounds-add_cell_text-start
 slice_bounds-add_cell_text-start c =
     let there : c.text_at-t.result.found ≡ true → TextIs c.args.cells.now c.args.at c.args.end c.text_at-t.result = λ e. c.text_at-t.ensures e in
-    let t = there c.if-t.true in let f = found_at _ _ _ _ _ t.field in omega (arith, f.start_is, f.next-is)
+    let t = there c.if-t.true in let f = found_at _ _ _ _ _ t.field in omega (arith, f.start_is, f.next_is)
 
 pub slice_bounds-add_cell_text-end : goal.slice_bounds-add_cell_text-end
 slice_bounds-add_cell_text-end c =
     let there : c.text_at-t.result.found ≡ true → TextIs c.args.cells.now c.args.at c.args.end c.text_at-t.result = λ e. c.text_at-t.ensures e in
-    let t = there c.if-t.true in let f = found_at _ _ _ _ _ t.field in omega (arith, f.start_is, f.next-is, f.inside)
+    let t = there c.if-t.true in let f = found_at _ _ _ _ _ t.field in omega (arith, f.start_is, f.next_is, f.inside)
 
 pub add_cell_text-requires : goal.add_cell_text-requires
 add_cell_text-requires c =
@@ -36,7 +36,7 @@ pub returns-then-t : goal.returns-then-t
 returns-then-t c =
     let there : c.text_at-t.result.found ≡ true → TextIs c.args.cells.now c.args.at c.args.end c.text_at-t.result = λ e. c.text_at-t.ensures e in
     let t = there c.if-t.true in let f = found_at _ _ _ _ _ t.field in
-    record { added_in = record { grown = c.add_cell_text.ensures.line_grown; on = omega (arith, f.next-is) }; adds_kept = rw c.if-hung.false (seat-text _ _ _ _ c.args.options _ _ _ _ _ _ _ _ _ t.before t.field refl refl c.add_cell_text.ensures.adds_cell_text) }
+    record { added_in = record { grown = c.add_cell_text.ensures.line_grown; on = omega (arith, f.next_is) }; adds_kept = rw c.if-hung.false (seat-text _ _ _ _ c.args.options _ _ _ _ _ _ _ _ _ t.before t.field refl refl c.add_cell_text.ensures.adds_cell_text) }
 
 pub returns : goal.returns
 returns c =

@@ -15,17 +15,17 @@ returns-then-end-at c =
 pub slice_bounds-add_cell_text-count : goal.slice_bounds-add_cell_text-count
 slice_bounds-add_cell_text-count c =
     let found : FoundAt c.args.s.now c.args.at c.in-At.letter c.in-At.start c.in-At.next = found_at _ _ _ _ _ (sym c.field_at-f.ensures.value ∙ c.in-At.is) in
-    let r = found in omega (arith, r.start_is, r.next-is)
+    let r = found in omega (arith, r.start_is, r.next_is)
 
 pub slice_bounds-add_cell_text-start : goal.slice_bounds-add_cell_text-start
 slice_bounds-add_cell_text-start c =
     let found : FoundAt c.args.s.now c.args.at c.in-At.letter c.in-At.start c.in-At.next = found_at _ _ _ _ _ (sym c.field_at-f.ensures.value ∙ c.in-At.is) in
-    let r = found in omega (arith, r.start_is, r.next-is)
+    let r = found in omega (arith, r.start_is, r.next_is)
 
 pub slice_bounds-add_cell_text-end : goal.slice_bounds-add_cell_text-end
 slice_bounds-add_cell_text-end c =
     let found : FoundAt c.args.s.now c.args.at c.in-At.letter c.in-At.start c.in-At.next = found_at _ _ _ _ _ (sym c.field_at-f.ensures.value ∙ c.in-At.is) in
-    let r = found in omega (arith, r.start_is, r.next-is, r.inside)
+    let r = found in omega (arith, r.start_is, r.next_is, r.inside)
 
 pub add_cell_text-requires : goal.add_cell_text-requires
 add_cell_text-requires c =
@@ -41,17 +41,17 @@ returns-then-letter-eq76 c =
 pub slice_bounds-add_pattern-count : goal.slice_bounds-add_pattern-count
 slice_bounds-add_pattern-count c =
     let found : FoundAt c.args.s.now c.args.at c.in-At.letter c.in-At.start c.in-At.next = found_at _ _ _ _ _ (sym c.field_at-f.ensures.value ∙ c.in-At.is) in
-    let r = found in omega (arith, r.start_is, r.next-is)
+    let r = found in omega (arith, r.start_is, r.next_is)
 
 pub slice_bounds-add_pattern-start : goal.slice_bounds-add_pattern-start
 slice_bounds-add_pattern-start c =
     let found : FoundAt c.args.s.now c.args.at c.in-At.letter c.in-At.start c.in-At.next = found_at _ _ _ _ _ (sym c.field_at-f.ensures.value ∙ c.in-At.is) in
-    let r = found in omega (arith, r.start_is, r.next-is)
+    let r = found in omega (arith, r.start_is, r.next_is)
 
 pub slice_bounds-add_pattern-end : goal.slice_bounds-add_pattern-end
 slice_bounds-add_pattern-end c =
     let found : FoundAt c.args.s.now c.args.at c.in-At.letter c.in-At.start c.in-At.next = found_at _ _ _ _ _ (sym c.field_at-f.ensures.value ∙ c.in-At.is) in
-    let r = found in omega (arith, r.start_is, r.next-is, r.inside)
+    let r = found in omega (arith, r.start_is, r.next_is, r.inside)
 
 pub add_pattern-requires : goal.add_pattern-requires
 add_pattern-requires c =
@@ -66,17 +66,17 @@ returns-then-leaves_pattern c =
 pub slice_bounds-add_border_of-count : goal.slice_bounds-add_border_of-count
 slice_bounds-add_border_of-count c =
     let found : FoundAt c.args.s.now c.args.at c.in-At.letter c.in-At.start c.in-At.next = found_at _ _ _ _ _ (sym c.field_at-f.ensures.value ∙ c.in-At.is) in
-    let r = found in omega (arith, r.start_is, r.next-is)
+    let r = found in omega (arith, r.start_is, r.next_is)
 
 pub slice_bounds-add_border_of-start : goal.slice_bounds-add_border_of-start
 slice_bounds-add_border_of-start c =
     let found : FoundAt c.args.s.now c.args.at c.in-At.letter c.in-At.start c.in-At.next = found_at _ _ _ _ _ (sym c.field_at-f.ensures.value ∙ c.in-At.is) in
-    let r = found in omega (arith, r.start_is, r.next-is)
+    let r = found in omega (arith, r.start_is, r.next_is)
 
 pub slice_bounds-add_border_of-end : goal.slice_bounds-add_border_of-end
 slice_bounds-add_border_of-end c =
     let found : FoundAt c.args.s.now c.args.at c.in-At.letter c.in-At.start c.in-At.next = found_at _ _ _ _ _ (sym c.field_at-f.ensures.value ∙ c.in-At.is) in
-    let r = found in omega (arith, r.start_is, r.next-is, r.inside)
+    let r = found in omega (arith, r.start_is, r.next_is, r.inside)
 
 pub add_border_of-requires : goal.add_border_of-requires
 add_border_of-requires c =

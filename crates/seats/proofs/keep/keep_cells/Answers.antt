@@ -17,7 +17,7 @@ offset_bounds-ats-k c =
 
 pub bounds-ats-k : goal.bounds-ats-k
 bounds-ats-k c =
-    omega (arith, c.loop-k-test.true, c.loop-k.invariant.1.sizes.ats-are)
+    omega (arith, c.loop-k-test.true, c.loop-k.invariant.1.sizes.ats_are)
 
 pub offset_bounds-ends-k : goal.offset_bounds-ends-k
 offset_bounds-ends-k c =
@@ -25,7 +25,7 @@ offset_bounds-ends-k c =
 
 pub bounds-ends-k : goal.bounds-ends-k
 bounds-ends-k c =
-    omega (arith, c.loop-k-test.true, c.loop-k.invariant.1.sizes.es-are)
+    omega (arith, c.loop-k-test.true, c.loop-k.invariant.1.sizes.es_are)
 
 pub offset_bounds-widths-k : goal.offset_bounds-widths-k
 offset_bounds-widths-k c =
@@ -33,7 +33,7 @@ offset_bounds-widths-k c =
 
 pub bounds-widths-k : goal.bounds-widths-k
 bounds-widths-k c =
-    omega (arith, c.loop-k-test.true, c.loop-k.invariant.1.sizes.ws-are)
+    omega (arith, c.loop-k-test.true, c.loop-k.invariant.1.sizes.ws_are)
 
 pub offset_bounds-tos-k : goal.offset_bounds-tos-k
 offset_bounds-tos-k c =
@@ -41,7 +41,7 @@ offset_bounds-tos-k c =
 
 pub bounds-tos-k : goal.bounds-tos-k
 bounds-tos-k c =
-    omega (arith, c.loop-k-test.true, c.loop-k.invariant.1.sizes.ts-are)
+    omega (arith, c.loop-k-test.true, c.loop-k.invariant.1.sizes.ts_are)
 
 pub offset_bounds-spans-k : goal.offset_bounds-spans-k
 offset_bounds-spans-k c =
@@ -49,11 +49,11 @@ offset_bounds-spans-k c =
 
 pub bounds-spans-k : goal.bounds-spans-k
 bounds-spans-k c =
-    omega (arith, c.loop-k-test.true, c.loop-k.invariant.1.sizes.ns-are)
+    omega (arith, c.loop-k-test.true, c.loop-k.invariant.1.sizes.ns_are)
 
 pub bounds-hungs-k : goal.bounds-hungs-k
 bounds-hungs-k c =
-    omega (arith, c.loop-k-test.true, c.loop-k.invariant.1.sizes.hs-are)
+    omega (arith, c.loop-k-test.true, c.loop-k.invariant.1.sizes.hs_are)
 
 pub overflow_add-pos : goal.overflow_add-pos
 overflow_add-pos c =

@@ -15,7 +15,7 @@ next_slot-next-requires c =
 
 pub look-seen-requires : goal.look-seen-requires
 look-seen-requires c =
-    let i = subst (NextIn _ _ _) c.in-Is.is c.next_slot-next.ensures.next_in in i.seat-in.order
+    let i = subst (NextIn _ _ _) c.in-Is.is c.next_slot-next.ensures.next_in in i.seat_in.order
 
 pub loop-seat-smaller : goal.loop-seat-smaller
 loop-seat-smaller c =
@@ -23,7 +23,7 @@ loop-seat-smaller c =
 
 pub loop-seat-preserved : goal.loop-seat-preserved
 loop-seat-preserved c =
-    let i = subst (NextIn _ _ _) c.in-Is.is c.next_slot-next.ensures.next_in in (i.rest_in, c.look-seen.ensures.looks_in c.loop-seat.invariant.1 i.seat-in.near, rest_goes _ _ _ _ _ _ _ _ _ _ _ (subst (FindsNext _ _ _) c.in-Is.is c.next_slot-next.ensures.finds_next) c.look-seen.ensures.looks c.loop-seat.invariant.2)
+    let i = subst (NextIn _ _ _) c.in-Is.is c.next_slot-next.ensures.next_in in (i.rest_in, c.look-seen.ensures.looks_in c.loop-seat.invariant.1 i.seat_in.near, rest_goes _ _ _ _ _ _ _ _ _ _ _ (subst (FindsNext _ _ _) c.in-Is.is c.next_slot-next.ensures.finds_next) c.look-seen.ensures.looks c.loop-seat.invariant.2)
 
 pub returns-in-NoMore : goal.returns-in-NoMore
 returns-in-NoMore c =

@@ -16,7 +16,7 @@ loop-pos-init c =
 pub behind-ahead-requires : goal.behind-ahead-requires
 behind-ahead-requires c =
     let meets : Met c.args.cells.now c.args.sheet.now c.loop-pos.ahead c.hung_seat-seat.result c.in-Hangs.next = met _ _ _ _ _ _ _ _ _ c.hung_seat-seat.ensures (subst (HungIn _ _) c.in-Hangs.is c.hung_at-v.ensures.hung_in) (subst (FindsHung _ _) c.in-Hangs.is c.hung_at-v.ensures.finds_hung) in
-    (meets).seat-in.reaches
+    (meets).seat_in.reaches
 
 pub loop-pos-smaller-then-ahead-eq0 : goal.loop-pos-smaller-then-ahead-eq0
 loop-pos-smaller-then-ahead-eq0 c =
@@ -32,7 +32,7 @@ loop-pos-preserved-then-ahead-eq0 c =
 pub given-requires : goal.given-requires
 given-requires c =
     let walked : Walked c.args.cells.now c.args.sheet.now c.args.st c.loop-pos.ahead = c.loop-pos.invariant _ (walk_start _ _ _ _ c.requires c.bring-ahead.ensures.brings_in c.bring-ahead.ensures.brings) in
-    (omega (arith, c.if-ahead-eq0.false), (walked).low.front-in.reaches)
+    (omega (arith, c.if-ahead-eq0.false), (walked).low.front_in.reaches)
 
 pub returns-then-ahead-pos : goal.returns-then-ahead-pos
 returns-then-ahead-pos c =
@@ -61,7 +61,7 @@ returns-then-ahead-eq0-2 c =
 pub given-requires-in-NoMore : goal.given-requires-in-NoMore
 given-requires-in-NoMore c =
     let walked : Walked c.args.cells.now c.args.sheet.now c.args.st c.loop-pos.ahead = c.loop-pos.invariant _ (walk_start _ _ _ _ c.requires c.bring-ahead.ensures.brings_in c.bring-ahead.ensures.brings) in
-    (omega (arith, c.if-ahead-eq0-2.false), (walked).low.front-in.reaches)
+    (omega (arith, c.if-ahead-eq0-2.false), (walked).low.front_in.reaches)
 
 pub returns-in-NoMore : goal.returns-in-NoMore
 returns-in-NoMore c =
