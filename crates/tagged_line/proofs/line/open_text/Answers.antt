@@ -5,6 +5,7 @@ use mathlib.Core.Logic.{◌⊎◌, inl, inr}
 use Rattle.tagged_line.proofs.Holding.{open_none, open_same, open_new}
 use borrow.Author.Rules.{rules}
 use Rattle.tagged_line.proofs.line.open_text.Goals as goal
+use Rattle.tagged_line.proofs.line.open_text.Goals.{then-piece-at+else-line-annotation, else-piece-at}
 
 pub returns-then-n-eq0 : goal.returns-then-n-eq0
 returns-then-n-eq0 c =
@@ -16,4 +17,4 @@ returns-then-line-annotation c =
 
 pub returns : goal.returns
 returns c =
-    record { line_grown = (search rules, search rules); makes_room = open_new _ _ _ c.args.line c.args.annotation c.args.n c.args.cols _ _ c.if-n-eq0.false (elim c.if-piece-at.branch [ inl x ↦ inl (x.0.taken, x.2.left) | inr y ↦ inr y.left ]) c.put_head-first.ensures c.put_byte-start.ensures }
+    record { line_grown = (search rules, search rules); makes_room = open_new _ _ _ c.args.line c.args.annotation c.args.n c.args.cols _ _ c.if-n-eq0.false (elim c.if-piece-at.branch [ then-piece-at+else-line-annotation x ↦ inl (x.if-piece-at.true, x.if-line-annotation.false) | else-piece-at y ↦ inr y.if-piece-at.false ]) c.put_head-first.ensures c.put_byte-start.ensures }

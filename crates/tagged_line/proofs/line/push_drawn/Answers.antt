@@ -7,39 +7,10 @@ use mathlib.Core.Logic.{◌⊎◌, inl, inr}
 use mathlib.Core.Path.{◌≡◌}
 use borrow.Author.Rules.{rules}
 use Rattle.tagged_line.proofs.line.push_drawn.Goals as goal
-
-pub stretch_len-tail-requires : goal.stretch_len-tail-requires
-stretch_len-tail-requires c =
-    let stretched : c.if-k-width.more ≡ c.args.width - length c.args.segs.now = elim c.if-k-width.branch [ inl x ↦ omega (arith, x.1) | inr y ↦ omega (arith, y.0.left, y.1) ] in
-    let m = stretched in search rules
-
-pub overflow_add-n : goal.overflow_add-n
-overflow_add-n c =
-    let stretched : c.if-k-width.more ≡ c.args.width - length c.args.segs.now = elim c.if-k-width.branch [ inl x ↦ omega (arith, x.1) | inr y ↦ omega (arith, y.0.left, y.1) ] in
-    let m = stretched in search rules
-
-pub overflow_add-k : goal.overflow_add-k
-overflow_add-k c =
-    let stretched : c.if-k-width.more ≡ c.args.width - length c.args.segs.now = elim c.if-k-width.branch [ inl x ↦ omega (arith, x.1) | inr y ↦ omega (arith, y.0.left, y.1) ] in
-    let m = stretched in search rules
-
-pub open_text-next-requires : goal.open_text-next-requires
-open_text-next-requires c =
-    let stretched : c.if-k-width.more ≡ c.args.width - length c.args.segs.now = elim c.if-k-width.branch [ inl x ↦ omega (arith, x.1) | inr y ↦ omega (arith, y.0.left, y.1) ] in
-    let m = stretched in search rules
-
-pub put_drawn-at-requires : goal.put_drawn-at-requires
-put_drawn-at-requires c =
-    let stretched : c.if-k-width.more ≡ c.args.width - length c.args.segs.now = elim c.if-k-width.branch [ inl x ↦ omega (arith, x.1) | inr y ↦ omega (arith, y.0.left, y.1) ] in
-    let m = stretched in search rules
-
-pub put_stretch-requires : goal.put_stretch-requires
-put_stretch-requires c =
-    let stretched : c.if-k-width.more ≡ c.args.width - length c.args.segs.now = elim c.if-k-width.branch [ inl x ↦ omega (arith, x.1) | inr y ↦ omega (arith, y.0.left, y.1) ] in
-    let m = stretched in search rules
+use Rattle.tagged_line.proofs.line.push_drawn.Goals.{then-k-width, else-k-width}
 
 pub returns : goal.returns
 returns c =
-    let stretched : c.if-k-width.more ≡ c.args.width - length c.args.segs.now = elim c.if-k-width.branch [ inl x ↦ omega (arith, x.1) | inr y ↦ omega (arith, y.0.left, y.1) ] in
+    let stretched : c.if-k-width.more ≡ c.args.width - length c.args.segs.now = elim c.if-k-width.branch [ then-k-width x ↦ omega (arith, x.more-is) | else-k-width y ↦ omega (arith, y.if-k-width.false, y.more-is) ] in
     let more = stretched in
     record { line_grown = drawn_grown _ _ _ _ _ _ _ c.open_text-next.ensures.line_grown.0 c.requires.n_value.1 c.stretch_len-tail.ensures.upper_bound more; draws = pushed_drawn _ _ _ _ c.args.line _ c.args.annotation c.args.n _ _ c.args.width _ _ c.args.segs.now c.args.lines c.open_text-next.ensures.makes_room (omega (arith, c.open_text-next.ensures.line_grown.1)) c.requires.n_value.0 c.stretch_len-tail.ensures.value more c.put_drawn-at.ensures c.put_stretch.ensures }
