@@ -15,7 +15,7 @@ import sys
 
 WORD = r"[^\s(){}.;,@\"«»]+"
 MODIFIERS = r"(?:(?:abbrev|unfoldable|abstract|pub) +)*"
-DECLARED = re.compile(rf"^(?:  )?({MODIFIERS})([^\s:(){{}}.,]+)((?: \{{[^{{}}]*\}})*) *:(?:\s|$)")
+DECLARED = re.compile(rf"^ *({MODIFIERS})([^\s:(){{}}.,]+)((?: \{{[^{{}}]*\}})*) *:(?:\s|$)")
 TYPE = re.compile(r"^(?:pub )?(?:unfoldable )?(?:pub )?(data|record) ([^\s:(){}]+)")
 MADE = re.compile(r":\s*(?:goal|tie|c|needs?|given)\.|statement")
 SKIP = re.compile(r"^ *(?:--|use |pub use |mod |pub mod |infix|unfolding |open |module )|^\s*$")

@@ -374,29 +374,29 @@ module _ {frame : Frame} {run : Run} {text lb₀ lt₀ wb₀ wt₀ out₀ : List
 
   module _ (c k : ℕ) (e : decode_of (take (length text - at) (drop at text)) ≡ Char c k) where
     -- The character's bytes lie inside the text.
-    pub char-inside : at + k ≤ length text
-    char-inside = let d = decode_size (take (length text - at) (drop at text)) c k e in let i = inv.inside in omega (arith, part_len text at, d.2)
+    pub char_inside : at + k ≤ length text
+    char_inside = let d = decode_size (take (length text - at) (drop at text)) c k e in let i = inv.inside in omega (arith, part_len text at, d.2)
 
     -- There are some.
-    pub char-some : 0 < k
-    char-some = (decode_size (take (length text - at) (drop at text)) c k e).0
+    pub char_some : 0 < k
+    char_some = (decode_size (take (length text - at) (drop at text)) c k e).0
 
     -- They are as many as it says.
-    pub char-length : length (take (at + k - at) (drop at text)) ≡ k
-    char-length = rw (part_bytes text at k) (first_length (drop at text) c k (rw (rest text at) at e))
+    pub char_length : length (take (at + k - at) (drop at text)) ≡ k
+    char_length = rw (part_bytes text at k) (first_length (drop at text) c k (rw (rest text at) at e))
 
     -- They are those of the character.
     pub char_is : CharIs (take (at + k - at) (drop at text)) c
     char_is = rw (part_bytes text at k) (first_is (drop at text) c k (rw (rest text at) at e))
 
     -- There are units for them.
-    pub char-ready : start.st.used + length text ≤ 4096 → Ready frame cur (length (take (at + k - at) (drop at text)))
-    char-ready u =
+    pub char_ready : start.st.used + length text ≤ 4096 → Ready frame cur (length (take (at + k - at) (drop at text)))
+    char_ready u =
         record {
           small = inv.small.small;
           ann = inv.small.ann;
-          some = omega (arith, char-length, char-some);
-          units = omega (arith, char-length, char-inside, inv.small.used, u);
+          some = omega (arith, char_length, char_some);
+          units = omega (arith, char_length, char_inside, inv.small.used, u);
         }
 
     module _ (r : Walked) (lb' lt' wb' wt' out' : List ℕ) (adds : AddsChar frame run cur c lb lt wb wt out r lb' lt' wb' wt' out') where
@@ -407,8 +407,8 @@ module _ {frame : Frame} {run : Run} {text lb₀ lt₀ wb₀ wt₀ out₀ : List
       walking_on w q x p₁ p₂ p₃ p₄ p₅ =
           let y : WalkedSmall frame w (cur.st.used + length (take (at + k - at) (drop at text))) = rw q at x in
           record {
-            inside = char-inside;
-            small = walked_more (omega (arith, char-length, inv.small.used)) y;
+            inside = char_inside;
+            small = walked_more (omega (arith, char_length, inv.small.used)) y;
             lb_same = p₁ ∙ inv.lb_same;
             lt_same = p₂ ∙ inv.lt_same;
             wb_same = p₃ ∙ inv.wb_same;
@@ -429,8 +429,8 @@ module _ {frame : Frame} {run : Run} {text lb₀ lt₀ wb₀ wt₀ out₀ : List
           }
 
       -- Without room for it the text has none.
-      pub walking-narrow : r ≡ walked.Narrow → AddsText frame run start.st text lb₀ lt₀ wb₀ wt₀ out₀ flushed.Narrow lb' lt' wb' wt' out'
-      walking-narrow q d₀ base b m main wrap cs o i t =
+      pub walking_narrow : r ≡ walked.Narrow → AddsText frame run start.st text lb₀ lt₀ wb₀ wt₀ out₀ flushed.Narrow lb' lt' wb' wt' out'
+      walking_narrow q d₀ base b m main wrap cs o i t =
           let g = inv.gone d₀ base b m main wrap cs o i t in
           let (zs, ez, ex) = some_cons c (chars (drop k (take (length text - at) (drop at text)))) g.zs
           (sym (chars_step (take (length text - at) (drop at text)) c k e) ∙ left_is g.zs g.left) in

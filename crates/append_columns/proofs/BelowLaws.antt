@@ -247,15 +247,15 @@ module _ (out : List ℕ) (p : Lines) (s : RenderOptions) (buffer : List ℕ) (n
         ap (λ (m : ℕ). take m cut-buffer) e ∙ whole.0
 
     -- With pad it is a text.
-    pub holed-drawn : s.pad ≡ true → DrawsHoled out p s (take n cut-buffer) cells sheet first collapse height out' r → AddsHoled out p s buffer n cells sheet first collapse height out' r
-    holed-drawn pad draws xs total left wide any b keeps within st ls e =
+    pub holed_drawn : s.pad ≡ true → DrawsHoled out p s (take n cut-buffer) cells sheet first collapse height out' r → AddsHoled out p s buffer n cells sheet first collapse height out' r
+    holed_drawn pad draws xs total left wide any b keeps within st ls e =
         let hs = holes_below s collapse height xs in
         let m : length b ≡ length (take n cut-buffer) = sym (keeps_fits buffer n b keeps few).1 ∙ sym (part_size n cut-buffer buffer few still) in
         draws pad xs total left wide (ap (λ (z : ℕ). any_past z hs) (sym m) ∙ within) (cut_all b hs) (is_cut xs total left wide b keeps within) st ls e
 
     -- Without it is a field.
-    pub holed-field : s.pad ≡ false → PutsHoled out p s.annotation (take n cut-buffer) cells sheet first collapse height out' r → AddsHoled out p s buffer n cells sheet first collapse height out' r
-    holed-field pad puts xs total left wide any b keeps within st ls e =
+    pub holed_field : s.pad ≡ false → PutsHoled out p s.annotation (take n cut-buffer) cells sheet first collapse height out' r → AddsHoled out p s buffer n cells sheet first collapse height out' r
+    holed_field pad puts xs total left wide any b keeps within st ls e =
         let hs = holes_below s collapse height xs in
         let same = cut_length b hs within in
         subst (λ (z : RenderLine). Emitted st (ls ++ (z ∷ [])) [] [] out' r) (sym (padded_none s (border s.annotation (cut_all b hs) hs) pad))
@@ -296,9 +296,9 @@ module _ (out : List ℕ) (p : Lines) (s : RenderOptions) (cells sheet at end wi
     plain st ls b hs none e = subst (λ (z : List Hole). Emitted st (ls ++ (padded s (border s.annotation (cut_all b z) z) ∷ [])) [] [] out' r) (sym none) e
 
     -- It has holes.
-    pub below-holed : holes ≡ true → AddsHoled out p s mid n cells sheet first collapse height out' r
+    pub below_holed : holes ≡ true → AddsHoled out p s mid n cells sheet first collapse height out' r
         → AddsBelow out p s cells sheet at end width hung kept first joined collapse total height holes out' r
-    below-holed h adds xs row st ls e =
+    below_holed h adds xs row st ls e =
         drawn st ls _
         (adds xs row.full row.left row.wide (sym row.holed ∙ h) _ (below room row.to row.span xs row.full row.row) row.within st ls e)
 
@@ -313,10 +313,10 @@ module _ (out : List ℕ) (p : Lines) (s : RenderOptions) (cells sheet at end wi
         (subst (λ (z : List ℕ). Emitted st (ls ++ (padded s (plain_border s.annotation z) ∷ [])) [] [] out' r) is (adds st ls e)))
 
     -- It has none, and is longer than the buffer.
-    pub below-long : holes ≡ false → length mid ≡ 65536 → 65536 < n → length out' ≡ length out → r.count ≡ p.count + 1 → r.long ≡ true
+    pub below_long : holes ≡ false → length mid ≡ 65536 → 65536 < n → length out' ≡ length out → r.count ≡ p.count + 1 → r.long ≡ true
         → AddsBelow out p s cells sheet at end width hung kept first joined collapse total height holes out' r
     unfolding any_past
-    below-long h size far same count long xs row st ls e =
+    below_long h size far same count long xs row st ls e =
         let b = border_below joined total xs (map (column_of collapse) xs) in
         let past = keeps_long mid n b (below room row.to row.span xs row.full row.row) (omega (arith, size, far)) in
         drawn st ls _

@@ -90,8 +90,8 @@ module _ (n : ℕ) (s : RenderOptions) (sheet cells : List ℕ) (is : n ≡ colu
     last_is = finds old_passes.sheet.lines parts.lines
 
     -- The places that the row is laid with.
-    pub old-in : OldIn sheet at.names at.hanging last joined
-    old-in =
+    pub old_in : OldIn sheet at.names at.hanging last joined
+    old_in =
         record {
           low = low.low parts.lines.order;
           order = low.high;
@@ -119,10 +119,10 @@ module _ (n : ℕ) (s : RenderOptions) (sheet cells : List ℕ) (is : n ≡ colu
         }
 
     -- The row's answer is the call's.
-    pub call-laid : (collapse : Bool) (done : Rendered) (st st' : List ℕ) → Lays s sheet at.names at.hanging last joined cells collapse st done st'
+    pub call_laid : (collapse : Bool) (done : Rendered) (st st' : List ℕ) → Lays s sheet at.names at.hanging last joined cells collapse st done st'
         → rendered done st' ≡ columns_answer s sheet cells collapse st
     unfolding columns_answer
-    call-laid collapse done st st' lays =
+    call_laid collapse done st st' lays =
         let old = old_passes.sheet in
         let cs = cells_passes.cells in
         lays old cs inputs_are

@@ -236,9 +236,9 @@ module _ (o : RenderOptions) (sheet : List ℕ) (stop from last : ℕ) (joined :
         rw r.surveyed.height_is
         (or_first (lines_misfit s.total (columns_height cols) cols) (any_past (length (border_below joined s.total seats cols)) (holes_of o (columns_height cols) 0 cols)) r.fits)
 
-    holes-fit : any_past (length (border_below joined s.total seats (map (column_of collapse) seats))) (holes_below o collapse s.height seats) ≡ false
+    holes_fit : any_past (length (border_below joined s.total seats (map (column_of collapse) seats))) (holes_below o collapse s.height seats) ≡ false
     unfolding row_misfit
-    holes-fit =
+    holes_fit =
         let cols = map (column_of collapse) seats in
         rw r.surveyed.height_is
         (or_second (lines_misfit s.total (columns_height cols) cols) (any_past (length (border_below joined s.total seats cols)) (holes_of o (columns_height cols) 0 cols)) r.fits)
@@ -253,23 +253,23 @@ module _ (o : RenderOptions) (sheet : List ℕ) (stop from last : ℕ) (joined :
           left = r.left;
           wide = row_wide old.overhang cs i.cells_wide i.hung_wide;
           holed = r.holed;
-          within = holes-fit;
+          within = holes_fit;
         }
 
     -- the lines stand
-    lines-stand : (o₁ o₂ o₃ : List ℕ) (p₁ p₂ p₃ : Lines) → AddsOld store sheet stop last joined cells at end width hung kept collapse o₁ p₁
+    lines_stand : (o₁ o₂ o₃ : List ℕ) (p₁ p₂ p₃ : Lines) → AddsOld store sheet stop last joined cells at end width hung kept collapse o₁ p₁
         → AddsRow o₁ p₁ (part stop from sheet) o cells sheet at end width to hung collapse kept s.height o₂ p₂
         → AddsBelow o₂ p₂ o cells sheet at end width hung kept first joined collapse s.total s.height holes o₃ p₃
         → Emitted store (all_lines old seats) [] [] o₃ p₃
-    lines-stand o₁ o₂ o₃ p₁ p₂ p₃ olds rows below =
+    lines_stand o₁ o₂ o₃ p₁ p₂ p₃ olds rows below =
         let e₁ = olds to r.span seats _ r.row old.lines i.old_at in
         let e₂ = rows old.names i.names_at.reads r.span seats _ r.row s.total lines_fit store _ e₁ in
         below seats row_below store _ e₂
 
     -- and they are those of the definition
-    flat-is : sheet_of (all_lines old seats) (waiting_on s.height old.names) (all_hangs seats) ≡ flat_columns o old cs collapse
+    flat_is : sheet_of (all_lines old seats) (waiting_on s.height old.names) (all_hangs seats) ≡ flat_columns o old cs collapse
     unfolding flat_columns columns_added columns_row row_total
-    flat-is =
+    flat_is =
         let h = r.surveyed.height_is in
         let t = r.surveyed.total_is in
         let k = i.old_at.kind in
@@ -295,9 +295,9 @@ module _ (o : RenderOptions) (sheet : List ℕ) (stop from last : ℕ) (joined :
       → Closes p₄ o₄ done store' → AddsAll o sheet stop from last joined cells collapse at end width to hung kept first s holes store done store'
   adds_plain o₁ o₂ o₃ o₄ p₁ p₂ p₃ p₄ done store' p olds rows below hands closes old cs i r =
       let none : all_hangs (row_slots old.overhang cs) ≡ [] = plain_hangs o s.height (full_total old.overhang cs - 1) collapse (row_slots old.overhang cs) (r.surveyed.plain_is p) in
-      closes store _ _ [] (hands old.names i.names_at store _ (lines-stand old cs i r o₁ o₂ o₃ p₁ p₂ p₃ olds rows below)).emitted
+      closes store _ _ [] (hands old.names i.names_at store _ (lines_stand old cs i r o₁ o₂ o₃ p₁ p₂ p₃ olds rows below)).emitted
       ∙ ap (λ (t : Sheet). give (finished t) store)
-      (ap (sheet_of (all_lines old (row_slots old.overhang cs)) (waiting_on s.height old.names)) (sym none) ∙ flat-is old cs i r)
+      (ap (sheet_of (all_lines old (row_slots old.overhang cs)) (waiting_on s.height old.names)) (sym none) ∙ flat_is old cs i r)
 
   -- What hangs on stands behind the lines and the names.
   pub adds_hung : (o₁ o₂ o₃ o₄ o₅ : List ℕ) (p₁ p₂ p₃ p₄ p₅ : Lines) (done : Rendered) (store' : List ℕ)
@@ -308,10 +308,10 @@ module _ (o : RenderOptions) (sheet : List ℕ) (stop from last : ℕ) (joined :
       → HangsAll o₄ p₄ o cells sheet from collapse s.height o₅ p₅
       → Closes p₅ o₅ done store' → AddsAll o sheet stop from last joined cells collapse at end width to hung kept first s holes store done store'
   adds_hung o₁ o₂ o₃ o₄ o₅ p₁ p₂ p₃ p₄ p₅ done store' olds rows below hands hangs closes old cs i r =
-      let h = hands old.names i.names_at store _ (lines-stand old cs i r o₁ o₂ o₃ p₁ p₂ p₃ olds rows below) in
+      let h = hands old.names i.names_at store _ (lines_stand old cs i r o₁ o₂ o₃ p₁ p₂ p₃ olds rows below) in
       closes store _ _ _
       (hangs cs old.overhang i.cells_are i.few i.cells_readable i.hung_at i.hung_readable store _ _ h.starts h.emitted)
-      ∙ ap (λ (t : Sheet). give (finished t) store) (flat-is old cs i r)
+      ∙ ap (λ (t : Sheet). give (finished t) store) (flat_is old cs i r)
 
 -- ---- the row past refusals 1 to 3
 
@@ -338,27 +338,27 @@ module _ (o : RenderOptions) (sheet : List ℕ) (stop from last : ℕ) (joined :
     abbrev row_of : List Slot
     row_of = row_slots old.overhang cs
 
-    row-left : SlotsLeft cells sheet first row_of (full_total old.overhang cs)
-    row-left = begins cs old.overhang i.cells_are i.few i.cells_readable i.hung_at i.hung_readable
+    row_left : SlotsLeft cells sheet first row_of (full_total old.overhang cs)
+    row_left = begins cs old.overhang i.cells_are i.few i.cells_readable i.hung_at i.hung_readable
 
     row_kept : RowKept cells sheet at end width to span hung kept row_of (full_total old.overhang cs)
-    row_kept = keeps row_of _ row-left
+    row_kept = keeps row_of _ row_left
 
-    row-surveyed : SurveyIs collapse s row_of (full_total old.overhang cs)
-    row-surveyed = surveys to row_of _ row_kept
+    row_surveyed : SurveyIs collapse s row_of (full_total old.overhang cs)
+    row_surveyed = surveys to row_of _ row_kept
 
-    row-asked : RowAsked o joined collapse s.total s.height row_of asked
-    row-asked = asks o row_of _ row-left row-surveyed
+    row_asked : RowAsked o joined collapse s.total s.height row_of asked
+    row_asked = asks o row_of _ row_left row_surveyed
 
     -- the tests of the definition
-    misfit-same : row_misfit o s.total (map (column_of collapse) row_of) (border_below joined s.total row_of (map (column_of collapse) row_of)) ≡ columns_misfit o old cs collapse
+    misfit_same : row_misfit o s.total (map (column_of collapse) row_of) (border_below joined s.total row_of (map (column_of collapse) row_of)) ≡ columns_misfit o old cs collapse
     unfolding columns_misfit row_total
-    misfit-same = rw (row-surveyed.total_is, i.old_at.kind)
+    misfit_same = rw (row_surveyed.total_is, i.old_at.kind)
 
     refusal_is : asked.refusal ≡ (if collapse && any_top row_of && not joined then 6 else if columns_misfit o old cs collapse then 10 else 0)
     refusal_is =
-        row-asked.refusal_is
-        ∙ ap (λ (b : Bool). if collapse && any_top row_of && not joined then 6 else if b then 10 else 0) misfit-same
+        row_asked.refusal_is
+        ∙ ap (λ (b : Bool). if collapse && any_top row_of && not joined then 6 else if b then 10 else 0) misfit_same
 
   -- Refusal 6 or 10.
   pub lays_refused : (done : Rendered) (store store' : List ℕ) → (asked.refusal ≡ 0 → ⊥) → rendered done store' ≡ give (refused asked.refusal) store
@@ -380,9 +380,9 @@ module _ (o : RenderOptions) (sheet : List ℕ) (stop from last : ℕ) (joined :
       (record {
         span = span;
         row = row_kept old cs i;
-        left = row-left old cs i;
-        surveyed = row-surveyed old cs i;
-        fits = misfit-same old cs i ∙ n.0;
-        holed = (row-asked old cs i).holes_is z;
+        left = row_left old cs i;
+        surveyed = row_surveyed old cs i;
+        fits = misfit_same old cs i ∙ n.0;
+        holed = (row_asked old cs i).holes_is z;
       })
       ∙ ap (λ (v : Verdict). give v store) n.1

@@ -25,7 +25,7 @@ use Rattle.block.proofs.Results.{good_bind, good_map, good_both}
 use Rattle.block.proofs.Width.{columns_append, no_text, BlockWithin, fits_carried, fits_word, fits_step, fits_field}
 use Rattle.block.proofs.Clean.{Counted as Brought, Brings, Clean, clean_carried, clean_word, clean_step, clean_field}
 use Rattle.block.proofs.Group.{glue, group, tline, tagged_chars, columns_tagged_chars, push_text, push_item, push_spaces, group_width, group_content, tline_width, group_mode, trim_length, trim_width, end_width, sum_backwards}
-use Rattle.block.proofs.Same.{Match, match_bind, match_and, match_good, by_both, block_of, Pending, Carried, before-wrap, if-wrapped, Like, word_same, LikeW, step_same}
+use Rattle.block.proofs.Same.{Match, match_bind, match_and, match_good, by_both, block_of, Pending, Carried, before_wrap, if_wrapped, Like, word_same, LikeW, step_same}
 use Rattle.block.proofs.Fuel.{Stops, walk_stops, Counted, none_wide, rest_length, rest_counted, rest_empty, shrinks}
 use Rattle.block.proofs.Equal.{field_same, passes_wide, refusal_at}
 
@@ -236,11 +236,11 @@ write_on self d k =
     let put = set_line (push_ws self.line n (unwrap self.spacetag)) self in
     let on : Lined put = lined_spaces self n (unwrap self.spacetag) d in
     by_if (λ (r : WrappedBlock). Lined r × Carried (self.wslen - n) r.spacetag) (eqb n self.width)
-    (λ _. (lined_flush put on, tag-flush put (self.wslen - n) (less_carried self.wslen n self.spacetag k)))
+    (λ _. (lined_flush put on, tag_flush put (self.wslen - n) (less_carried self.wslen n self.spacetag k)))
     (λ _. (on, less_carried self.wslen n self.spacetag k))
   where
-    tag-flush : (r : WrappedBlock) (n : ℕ) → Carried n r.spacetag → Carried n (flush_line r).spacetag
-    tag-flush r n h = unfold flush_line force_flush_line in by_if (λ (q : WrappedBlock). Carried n q.spacetag) (not (is_empty r.line)) (λ _. h) (λ _. h)
+    tag_flush : (r : WrappedBlock) (n : ℕ) → Carried n r.spacetag → Carried n (flush_line r).spacetag
+    tag_flush r n h = unfold flush_line force_flush_line in by_if (λ (q : WrappedBlock). Carried n q.spacetag) (not (is_empty r.line)) (λ _. h) (λ _. h)
 
 writes_of : (fuel : ℕ) (self : WrappedBlock) → Lined self → Carried self.wslen self.spacetag → WriteRemainingSafe fuel self
 unfolding WriteRemainingSafe WriteOneSafe
@@ -289,15 +289,15 @@ module _ (s : Setup) where
     abbrev Fit : Block → Type 0
     Fit b = BlockWithin s (s.width + 2) b × Clean Known known_space s b
 
-    wrap-of : (b : Block) (n k : ℕ) → Pending b.wslen b.spacetag → columns b.word ≤ n → Fit b
+    wrap_of : (b : Block) (n k : ℕ) → Pending b.wslen b.spacetag → columns b.word ≤ n → Fit b
         → NotEnoughSpaceSafe (first_mode (group b.word)) (left s b) (block_of s n k (with_wrapped false b))
     unfolding NotEnoughSpaceSafe
-    wrap-of b n k h g (fits, clean) =
+    wrap_of b n k h g (fits, clean) =
         let d = with_wrapped (starts_pre b.word) (flat_flush_line s (drop_blanks s b.spacetag b)) in
-        let (n', m, f, kept, c) = before-wrap s positive b n k h in
+        let (n', m, f, kept, c) = before_wrap s positive b n k h in
         let fits' = fits_carried s positive (s.width + 2) (omega arith) (λ _. omega arith) b fits in
         let clean' = clean_carried Known known_space s b clean in
-        rw (m, f, group_mode b.word, if-wrapped s positive (starts_pre b.word) (flat_flush_line s (drop_blanks s b.spacetag b)) n' k, c) (
+        rw (m, f, group_mode b.word, if_wrapped s positive (starts_pre b.word) (flat_flush_line s (drop_blanks s b.spacetag b)) n' k, c) (
           match_of b.spacetag (with_wrapped false b) n k g,
           λ _ _. line_safe (drop_blanks s b.spacetag b).line,
           λ fuel. writes_of fuel (block_of s n' k d) (d.line, refl) kept,
@@ -314,7 +314,7 @@ module _ (s : Setup) where
         rw e (λ _. (
           fit.0.1,
           λ _ t. some_tag b.wslen b.spacetag (pending_carried b.wslen b.spacetag h) (ltb-true 0 b.wslen t),
-          λ _. wrap-of b n (columns b.word) h g fit,
+          λ _. wrap_of b n (columns b.word) h g fit,
         ))
 
     word_on : (b : Block) (r : WrappedBlock) → Sound b r → Match Sound (flat_flush_word s b) (flush_word r)
@@ -324,18 +324,18 @@ module _ (s : Setup) where
         (good_both (BlockWithin s (s.width + 2)) (Clean Known known_space s) (flat_flush_word s b) (fits_word s positive (s.width + 2) (omega arith) (λ _. omega arith) b fits) (clean_word Known known_space s b clean)))
 
     -- the open line of such a block
-    sound-lined : (b : Block) (r : WrappedBlock) → Sound b r → Lined r
-    sound-lined b r ((n, e, h, g), fit) = (b.line, ap (λ (x : WrappedBlock). x.line) e)
+    sound_lined : (b : Block) (r : WrappedBlock) → Sound b r → Lined r
+    sound_lined b r ((n, e, h, g), fit) = (b.line, ap (λ (x : WrappedBlock). x.line) e)
 
     -- ---- `add_text`
 
-    tabs-of : (fuel : ℕ) (t : Tag) (pos : ℕ) (one : Bool) (self : WrappedBlock) → Lined self → TabLoopSafe fuel t pos one self
+    tabs_of : (fuel : ℕ) (t : Tag) (pos : ℕ) (one : Bool) (self : WrappedBlock) → Lined self → TabLoopSafe fuel t pos one self
     unfolding TabLoopSafe
-    tabs-of zero t pos one self d = tt
-    tabs-of (suc fuel) t pos one self d =
+    tabs_of zero t pos one self d = tt
+    tabs_of (suc fuel) t pos one self d =
         λ _. (
-          λ _. (λ _ _. lined_safe self d, tabs-of fuel t 0 one (flush_line self) (lined_flush self d)),
-          λ _. tabs-of fuel t (pos + 1) true (set_line (push_char self.line 0x20 t) self) (flat_push_char d.0 0x20 t, rw d.1 (push_item d.0 0x20 t)),
+          λ _. (λ _ _. lined_safe self d, tabs_of fuel t 0 one (flush_line self) (lined_flush self d)),
+          λ _. tabs_of fuel t (pos + 1) true (set_line (push_char self.line 0x20 t) self) (flat_push_char d.0 0x20 t, rw d.1 (push_item d.0 0x20 t)),
         )
 
     abbrev SoundW : Walk → Text → Type 0
@@ -345,8 +345,8 @@ module _ (s : Setup) where
     unfolding BlankSafe
     blank_of m c b self a h =
         λ _. (
-          λ _. (word_of b self h, match_good Sound NewlineSafe (flat_flush_word s b) _ (word_on b self h) (λ d r k _. lined_safe r (sound-lined d r k))),
-          λ _ _. (word_of b self h, match_good Sound (TabSafe (tag a m)) (flat_flush_word s b) _ (word_on b self h) (λ d r k fuel. tabs-of fuel (tag a m) _ false r (sound-lined d r k))),
+          λ _. (word_of b self h, match_good Sound NewlineSafe (flat_flush_word s b) _ (word_on b self h) (λ d r k _. lined_safe r (sound_lined d r k))),
+          λ _ _. (word_of b self h, match_good Sound (TabSafe (tag a m)) (flat_flush_word s b) _ (word_on b self h) (λ d r k fuel. tabs_of fuel (tag a m) _ false r (sound_lined d r k))),
         )
 
     char_of : (m : Mode) (c : ℕ) (w : Walk) (v : Text) → SoundW w v → AddCharSafe m c v
@@ -386,36 +386,36 @@ module _ (s : Setup) where
     field_of (fragment n) b r h = tt
     field_of wrong b r h = tt
 
-    field-on : (f : JobField) (b : Block) (r : WrappedBlock) → Sound b r → Match Sound (flat_add_field s f b) (add_field f r)
-    field-on f b r (like, (fits, clean)) =
+    field_on : (f : JobField) (b : Block) (r : WrappedBlock) → Sound b r → Match Sound (flat_add_field s f b) (add_field f r)
+    field_on f b r (like, (fits, clean)) =
         match_and (Like s) Fit (flat_add_field s f b) _ (field_same s positive f b r like)
         (good_both (BlockWithin s (s.width + 2)) (Clean Known known_space s) (flat_add_field s f b) (fits_field s positive (s.width + 2) (omega arith) (λ _. omega arith) f b fits) (clean_field Known known_space s f b (brings f) clean))
       where
-        all-brought : (cs : List ℕ) → Every (λ (c : ℕ). Brought Known (width_of c) c) cs
-        all-brought [] = tt
-        all-brought (c ∷ cs) = ((λ n e t. rw e tt), all-brought cs)
+        all_brought : (cs : List ℕ) → Every (λ (c : ℕ). Brought Known (width_of c) c) cs
+        all_brought [] = tt
+        all_brought (c ∷ cs) = ((λ n e t. rw e tt), all_brought cs)
 
         brings : (f : JobField) → Brings Known f
-        brings (text m a c t) = all-brought (chars_or (chars t))
+        brings (text m a c t) = all_brought (chars_or (chars t))
         brings (fragment n) = tt
         brings wrong = tt
 
-    fields-of : (fs : List JobField) (b : Block) (r : WrappedBlock) → Sound b r → AddFieldsSafe fs r
+    fields_of_lem : (fs : List JobField) (b : Block) (r : WrappedBlock) → Sound b r → AddFieldsSafe fs r
     unfolding AddFieldsSafe
-    fields-of [] b r h = tt
-    fields-of (f ∷ fs) b r h =
-        (field_of f b r h, match_good Sound _ (flat_add_field s f b) _ (field-on f b r h) (λ c q k. fields-of fs c q k))
+    fields_of_lem [] b r h = tt
+    fields_of_lem (f ∷ fs) b r h =
+        (field_of f b r h, match_good Sound _ (flat_add_field s f b) _ (field_on f b r h) (λ c q k. fields_of_lem fs c q k))
 
-    fields-on : (fs : List JobField) (b : Block) (r : WrappedBlock) → Sound b r → Match Sound (flat_add_fields s fs b) (add_fields fs r)
+    fields_on : (fs : List JobField) (b : Block) (r : WrappedBlock) → Sound b r → Match Sound (flat_add_fields s fs b) (add_fields fs r)
     unfolding flat_add_fields add_fields
-    fields-on [] b r h = h
-    fields-on (f ∷ fs) b r h =
-        match_bind Sound Sound (flat_add_field s f b) (add_field f r) _ _ (field-on f b r h) (λ c q k. fields-on fs c q k)
+    fields_on [] b r h = h
+    fields_on (f ∷ fs) b r h =
+        match_bind Sound Sound (flat_add_field s f b) (add_field f r) _ _ (field_on f b r h) (λ c q k. fields_on fs c q k)
 
     end_of : (b : Block) (r : WrappedBlock) → Sound b r → IntoLinesSafe r
     unfolding IntoLinesSafe
     end_of b r h =
-        (word_of b r h, match_good Sound FlushLineSafe (flat_flush_word s b) _ (word_on b r h) (λ d q k _ _. lined_safe q (sound-lined d q k)))
+        (word_of b r h, match_good Sound FlushLineSafe (flat_flush_word s b) _ (word_on b r h) (λ d q k _ _. lined_safe q (sound_lined d q k)))
 
     -- a word without text that is taken leaves a block as sound as before
     taken_of : (x : Bool) (b : Block) (r : WrappedBlock) → is_empty r.word ≡ x → Sound b r → IntoLinesSafe (if x then set_word line_new r else r)
@@ -429,20 +429,20 @@ module _ (s : Setup) where
         )
     taken_of false b r e h = end_of b r h
 
-    wrapping-of : (b : Block) (r : WrappedBlock) → Sound b r → FlushWrappingSafe r
+    wrapping_of : (b : Block) (r : WrappedBlock) → Sound b r → FlushWrappingSafe r
     unfolding FlushWrappingSafe trailing_taken
-    wrapping-of b r h = taken_of (is_empty r.word) b r refl h
+    wrapping_of b r h = taken_of (is_empty r.word) b r refl h
 
-    block-safe : (fs : List JobField) → FlushedBlockSafe s fs
+    block_safe : (fs : List JobField) → FlushedBlockSafe s fs
     unfolding FlushedBlockSafe new new-block columns group
-    block-safe fs =
+    block_safe fs =
         let r = new-block s.width s.pad s.overflow s.annotation in
         let start : Sound new r = ((0, refl, refl, omega arith), ((tt, omega arith), (tt, tt, tt))) in
-        (fields-of fs new r start, match_good Sound FlushWrappingSafe (flat_add_fields s fs new) _ (fields-on fs new r start) wrapping-of)
+        (fields_of_lem fs new r start, match_good Sound FlushWrappingSafe (flat_add_fields s fs new) _ (fields_on fs new r start) wrapping_of)
 
 -- ---- THE STATEMENT
 
 -- NO PANIC: a job that passes 1 to 4 runs, to its end or to TooNarrow, without a difference below 0, an `unwrap` of None, a part of a
 -- string past its end or a failed assertion.
 pub no_panic : (job : List ℕ) (s : Setup) → setup_of job ≡ some s → job_refusal job ≡ 0 → FlushedBlockSafe s (fields_of job)
-no_panic job s e p = block-safe s (passes_wide (fields_of job) s (refusal_at job s e p)) (fields_of job)
+no_panic job s e p = block_safe s (passes_wide (fields_of job) s (refusal_at job s e p)) (fields_of job)

@@ -257,24 +257,24 @@ module _ (frame : Frame) (st : State) (d₀ : List ℕ) (base : ℕ) (b : Block)
     last = rw is (last_of st.blanks b b.spacetag refl o.pends some-blanks)
 
     -- Pre
-    pub drop-pre : (r : Dropped) (lb' lt' : List ℕ) → m ≡ 1 → KeepsPre frame st lb lt r lb' lt'
+    pub drop_pre : (r : Dropped) (lb' lt' : List ℕ) → m ≡ 1 → KeepsPre frame st lb lt r lb' lt'
         → Dropped-is d₀ base (drop_blanks (setup frame) b.spacetag b) r lb' lt' out
-    drop-pre r lb' lt' e k =
+    drop_pre r lb' lt' e k =
         dropped_same (drops_at (setup frame) b last.tag pre last.is (mode_pre last.tag.mode (last.mode ∙ e)))
         (k d₀ base b last.tag wb wt out o last.is)
 
     module _ (p : Blanks) (z : p ≡ no_blanks) where
       -- Normal
-      pub drop-normal : m ≡ 0 → Dropped-is d₀ base (drop_blanks (setup frame) b.spacetag b) (record { line = st.line; blanks = p }) lb lt out
+      pub drop_normal : m ≡ 0 → Dropped-is d₀ base (drop_blanks (setup frame) b.spacetag b) (record { line = st.line; blanks = p }) lb lt out
       unfolding flat_at_wrap
-      drop-normal e =
+      drop_normal e =
           dropped_same (drops_at (setup frame) b last.tag normal last.is (mode_normal last.tag.mode (last.mode ∙ e)))
           (record { line = holds_lines {x = b} refl refl o.line; left = (count_none z, tag_none z, refl) })
 
       -- PreWrap
-      pub drop-wrap : (r : Open) → (m ≡ 0 → ⊥) → (m ≡ 1 → ⊥) → TrimsLine st.line lb lt r
+      pub drop_wrap : (r : Open) → (m ≡ 0 → ⊥) → (m ≡ 1 → ⊥) → TrimsLine st.line lb lt r
           → Dropped-is d₀ base (drop_blanks (setup frame) b.spacetag b) (record { line = r; blanks = p }) lb lt out
       unfolding flat_at_wrap
-      drop-wrap r f g k =
+      drop_wrap r f g k =
           dropped_same (drops_at (setup frame) b last.tag pre_wrap last.is (mode_wrap last.tag.mode (λ e. f (sym last.mode ∙ e)) (λ e. g (sym last.mode ∙ e))))
           (record { line = holds_lines {x = with_line (trim_back b.line) b} refl refl (k d₀ base b out o.line); left = (count_none z, tag_none z, refl) })

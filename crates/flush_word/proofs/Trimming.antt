@@ -41,15 +41,15 @@ module _ (part : List ℕ) where
   decoded c rest v e = rw e (decode_complete c v rest)
 
   module _ (code len : ℕ) (d : decode_of part ≡ Char code len) where
-    pub white-is : is_whitespace code ≡ true → White part len
-    white-is w = λ c rest v f.
+    pub white_is : is_whitespace code ≡ true → White part len
+    white_is w = λ c rest v f.
         let g : Char code len ≡ Char c (length (utf8 c)) = sym d ∙ decoded c rest v f in
         let x : code ≡ c = cc in
         let y : len ≡ length (utf8 c) = cc in
         rw (← x, w, x) y
 
-    pub white-not : is_whitespace code ≡ false → White part 0
-    white-not w = λ c rest v f.
+    pub white_not : is_whitespace code ≡ false → White part 0
+    white_not w = λ c rest v f.
         let g : Char code len ≡ Char c (length (utf8 c)) = sym d ∙ decoded c rest v f in
         let x : code ≡ c = cc in
         rw (← x, w)
@@ -309,14 +309,14 @@ module _ (lb lt : List ℕ) where
     kept : blank (item (get_or lb (k - 1) 0) (get_or lt (k - 1) 0)) ≡ false → trim (items lb lt k) ≡ items lb lt k
     kept e = ap trim last ∙ trim_kept (items lb lt (k - 1)) _ e ∙ sym last
 
-    pub back-non-space : (get_or lb (k - 1) 0 ≡ 0x20 → ⊥) → trim (items lb lt k) ≡ items lb lt k
-    back-non-space n = kept (rw (ne_eqb (get_or lb (k - 1) 0) 0x20 n))
+    pub back_non_space : (get_or lb (k - 1) 0 ≡ 0x20 → ⊥) → trim (items lb lt k) ≡ items lb lt k
+    back_non_space n = kept (rw (ne_eqb (get_or lb (k - 1) 0) 0x20 n))
 
-    pub back-name : mark_tag ≤ get_or lt (k - 1) 0 → trim (items lb lt k) ≡ items lb lt k
-    back-name h = kept (rw (le-ltb (get_or lt (k - 1) 0) mark_tag h) (and-false (eqb (get_or lb (k - 1) 0) 0x20)))
+    pub back_name : mark_tag ≤ get_or lt (k - 1) 0 → trim (items lb lt k) ≡ items lb lt k
+    back_name h = kept (rw (le-ltb (get_or lt (k - 1) 0) mark_tag h) (and-false (eqb (get_or lb (k - 1) 0) 0x20)))
 
-    pub back-space : get_or lb (k - 1) 0 ≡ 0x20 → get_or lt (k - 1) 0 < mark_tag → trim (items lb lt k) ≡ trim (items lb lt (k - 1))
-    back-space e h = ap trim last ∙ trim_gone (items lb lt (k - 1)) _ (rw (eq-eqb (get_or lb (k - 1) 0) 0x20 e, lt-ltb (get_or lt (k - 1) 0) mark_tag h))
+    pub back_space : get_or lb (k - 1) 0 ≡ 0x20 → get_or lt (k - 1) 0 < mark_tag → trim (items lb lt k) ≡ trim (items lb lt (k - 1))
+    back_space e h = ap trim last ∙ trim_gone (items lb lt (k - 1)) _ (rw (eq-eqb (get_or lb (k - 1) 0) 0x20 e, lt-ltb (get_or lt (k - 1) 0) mark_tag h))
 
   pub back_done : (n k : ℕ) → k ≤ n → n ≤ length lb → n ≤ length lt → trim (items lb lt n) ≡ trim (items lb lt k) → trim (items lb lt k) ≡ items lb lt k → TrimsBack lb lt n k
   back_done n k h hb ht e f = λ l v q.
@@ -377,13 +377,13 @@ module _ (wt : List ℕ) where
   pre_end i h = rw (drop_of_length-le wt h)
 
   module _ (i : ℕ) (h : i < length wt) where
-    pub pre-here : get_or wt i 0 < mark_tag → first_pre (drop i wt) ≡ eqb (get_or wt i 0 / 65536) 1
+    pub pre_here : get_or wt i 0 < mark_tag → first_pre (drop i wt) ≡ eqb (get_or wt i 0 / 65536) 1
     unfolding first_pre
-    pre-here k = ap first_pre (drop-cons wt i 0 h) ∙ rw (lt-ltb (get_or wt i 0) mark_tag k)
+    pre_here k = ap first_pre (drop-cons wt i 0 h) ∙ rw (lt-ltb (get_or wt i 0) mark_tag k)
 
-    pub pre-on : mark_tag ≤ get_or wt i 0 → first_pre (drop i wt) ≡ first_pre (drop (i + 1) wt)
+    pub pre_on : mark_tag ≤ get_or wt i 0 → first_pre (drop i wt) ≡ first_pre (drop (i + 1) wt)
     unfolding first_pre
-    pre-on k = ap first_pre (drop-cons wt i 0 h) ∙ rw (le-ltb (get_or wt i 0) mark_tag k, add-one i)
+    pre_on k = ap first_pre (drop-cons wt i 0 h) ∙ rw (le-ltb (get_or wt i 0) mark_tag k, add-one i)
 
 -- ---- where a word starts
 

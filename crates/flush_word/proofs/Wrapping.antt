@@ -213,10 +213,10 @@ module _ (frame : Frame) (st : State) (d₀ : List ℕ) (base : ℕ) (b : Block)
 
   module _ (r : State) (lb' lt' : List ℕ) (e : st.word.text ≡ true) where
     -- "Got enough space"
-    pub flushes-fits : st.blanks.count + st.word.cols ≤ frame.width - st.line.cols → PutsWord st lb lt wb wt r lb' lt'
+    pub flushes_fits : st.blanks.count + st.word.cols ≤ frame.width - st.line.cols → PutsWord st lb lt wb wt r lb' lt'
         → NextBlock (flat_flush_word (setup frame) b) d₀ base r lb' lt' wb wt out
     unfolding left
-    flushes-fits h k =
+    flushes_fits h k =
         record {
           block = put_word (with_wrapped false b);
           is = flush_fits (setup frame) b (sym o.text ∙ e) (omega (arith, h, o.count, o.cols, o.line.cols));

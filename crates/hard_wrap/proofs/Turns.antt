@@ -78,33 +78,33 @@ module _ (frame : Frame) (st r : Open) (rest lb lt out lb' lt' out' d₀ : List 
     first : (q : List ℕ) → s.q ≡ q → cs ≡ q
     first q f = s.whole ∙ ap (λ (z : List ℕ). z ++ s.q) (text_none s.p (le_of_eq (sym s.place ∙ zero-at))) ∙ f
 
-    none-used : used ≡ 0
+    none_used : used ≡ 0
     unfolding str_width
-    none-used = s.cols ∙ ap str_width (text_none s.p (le_of_eq (sym s.place ∙ zero-at)))
+    none_used = s.cols ∙ ap str_width (text_none s.p (le_of_eq (sym s.place ∙ zero-at)))
 
     -- what the flat hard wrap makes of such a character
     abbrev Alone : ℕ → List ℕ → Line → Bool → Result Block
     Alone c q z y = if y then flat_hard_wrap (setup frame) (text t q ++ z) none (flat_force_flush_line (setup frame) (with_line (b.line ++ text t (c ∷ [])) b)) else too_narrow
 
-    alone-is : (c : ℕ) (q : List ℕ) → cs ≡ c ∷ q → st.cols ≡ columns b.line → frame.width < cols c → (z : Line)
+    alone_is : (c : ℕ) (q : List ℕ) → cs ≡ c ∷ q → st.cols ≡ columns b.line → frame.width < cols c → (z : Line)
         → flat_hard_wrap (setup frame) (text t cs ++ z) none b ≡ Alone c q z frame.overflow
-    alone-is c q w v h z =
+    alone_is c q w v h z =
         ap (λ (l : List ℕ). flat_hard_wrap (setup frame) (text t l ++ z) none b) w ∙ too_wide_lem (setup frame) t c q z b b.line (sym v ∙ empty) h
 
-    with-overflow : (c : ℕ) (q : List ℕ) (z : Line) (y : Bool) → frame.overflow ≡ y → Alone c q z frame.overflow ≡ Alone c q z y
-    with-overflow c q z y e = ap (Alone c q z) e
+    with_overflow : (c : ℕ) (q : List ℕ) (z : Line) (y : Bool) → frame.overflow ≡ y → Alone c q z frame.overflow ≡ Alone c q z y
+    with_overflow c q z y e = ap (Alone c q z) e
 
     -- it goes on the open line, and that is closed
-    pub step-over : (len k : ℕ) → Shows rest len k → frame.overflow ≡ true → ClosesWith frame st (take len rest) k tag lb lt out r lb' lt' out' → Stepped (setup frame) d₀ base b t cs r len k lb' lt' out'
+    pub step_over : (len k : ℕ) → Shows rest len k → frame.overflow ≡ true → ClosesWith frame st (take len rest) k tag lb lt out r lb' lt' out' → Stepped (setup frame) d₀ base b t cs r len k lb' lt' out'
     unfolding str_width text_bytes
-    step-over len k g over x = go s.q refl
+    step_over len k g over x = go s.q refl
       where
         go : (q : List ℕ) → s.q ≡ q → Stepped (setup frame) d₀ base b t cs r len k lb' lt' out'
         go [] f = absurd (let m : str_width cs ≡ 0 = ap str_width (first [] f) in omega arith)
         go (c ∷ q) f =
             let w : cs ≡ c ∷ q = first (c ∷ q) f in
             let n : frame.width - st.cols - used < cols c = rw f at s.stop in
-            let u = none-used in
+            let u = none_used in
             let v = o.cols in
             let sw : Scalars (c ∷ q) = rw w at sc in
             let sh = g c (text_bytes q) sw.0 (e ∙ ap text_bytes w) in
@@ -118,19 +118,19 @@ module _ (frame : Frame) (st r : Open) (rest lb lt out lb' lt' out' d₀ : List 
               place = pl;
               cols = pw;
               holds = x d₀ base b t (c ∷ []) o ta ann (sw.0, tt) (text_take rest cs (c ∷ []) q len e w pl) pw;
-              same = λ z. alone-is c q w v (omega arith) z ∙ with-overflow c q z true over;
+              same = λ z. alone_is c q w v (omega arith) z ∙ with_overflow c q z true over;
             }
 
     -- or the block does not overflow
-    pub step-stuck : frame.overflow ≡ false → (z : Line) → flat_hard_wrap (setup frame) (text t cs ++ z) none b ≡ too_narrow
+    pub step_stuck : frame.overflow ≡ false → (z : Line) → flat_hard_wrap (setup frame) (text t cs ++ z) none b ≡ too_narrow
     unfolding str_width
-    step-stuck over z = go s.q refl
+    step_stuck over z = go s.q refl
       where
         go : (q : List ℕ) → s.q ≡ q → flat_hard_wrap (setup frame) (text t cs ++ z) none b ≡ too_narrow
         go [] f = absurd (let m : str_width cs ≡ 0 = ap str_width (first [] f) in omega arith)
         go (c ∷ q) f =
             let w : cs ≡ c ∷ q = first (c ∷ q) f in
             let n : frame.width - st.cols - used < cols c = rw f at s.stop in
-            let u = none-used in
+            let u = none_used in
             let v = o.cols in
-            alone-is c q w v (omega arith) z ∙ with-overflow c q z false over
+            alone_is c q w v (omega arith) z ∙ with_overflow c q z false over

@@ -81,9 +81,9 @@ module _ (part cs : List ℕ) where
             on_record o.p c q i used len k w r o.at o.cols x.0 x.1
 
     -- a character that is too wide
-    pub going-stop : (left : ℕ) → left - used < k → Going part cs i used → Split left cs i used
+    pub going_stop : (left : ℕ) → left - used < k → Going part cs i used → Split left cs i used
     unfolding text_bytes
-    going-stop left l o = go o.q refl
+    going_stop left l o = go o.q refl
       where
         go : (q : List ℕ) → o.q ≡ q → Split left cs i used
         go [] e = absurd (let m : length (drop i part) ≡ 0 = ap length (o.rest ∙ ap text_bytes e) in omega (arith, length-drop i part))

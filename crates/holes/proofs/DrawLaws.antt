@@ -161,67 +161,67 @@ module _ (out₀ : List ℕ) (p₀ : Line) (a : ℕ) (s : List ℕ) (segs holes 
         let n = part_length segs holes s whole_in in
         stretch_length (part segs holes s) to ∙ rw n (sym ee)
 
-    pub end-most : end ≤ length s + to
-    end-most = omega arith
+    pub end_most : end ≤ length s + to
+    end_most = omega arith
 
-    pub own-length : length (part segs holes s) ≤ end
-    own-length = rw (part_length segs holes s whole_in) (omega arith)
+    pub own_length : length (part segs holes s) ≤ end
+    own_length = rw (part_length segs holes s whole_in) (omega arith)
 
     module _ (out : List ℕ) (p : Line) (pos at : ℕ) (w : Drawing out p pos at) where
       -- room for the segments before a hole
-      pub draw-room : (place m b : ℕ) → Within p₀ (drawn_most (length s) to) → m ≡ place - (place - end) → b ≡ pos + (m - pos)
+      pub draw_room : (place m b : ℕ) → Within p₀ (drawn_most (length s) to) → m ≡ place - (place - end) → b ≡ pos + (m - pos)
           → (b ≤ end + 2 * (at - holes)) × Within p (8 + 8 * (b - pos))
-      draw-room place m b ww em eb =
+      draw_room place m b ww em eb =
           let most = begin_most pos place end m b (2 * (at - holes)) em eb w.few in (
             most,
             within_on p₀ p (8 * pos + 3 * (at - holes)) (8 + 8 * (b - pos)) (drawn_most (length s) to) ww w.grown
-                (room_segments pos b (at - holes) (length s) to end (begin_low pos m b eb) most end-most (passed at holes (length s) w.inside)),
+                (room_segments pos b (at - holes) (length s) to end (begin_low pos m b eb) most end_most (passed at holes (length s) w.inside)),
           )
 
       -- a hole
-      pub draw-piece-room : (place m b l st nx : ℕ) (q : Line) → Within p₀ (drawn_most (length s) to) → m ≡ place - (place - end) → b ≡ pos + (m - pos)
+      pub draw_piece_room : (place m b l st nx : ℕ) (q : Line) → Within p₀ (drawn_most (length s) to) → m ≡ place - (place - end) → b ≡ pos + (m - pos)
           → FoundHole s at place l st nx → LineGrown p q (4 + 8 * (b - pos)) → Within q (13 + 3 * (nx - st))
-      draw-piece-room place m b l st nx q ww em eb f g =
+      draw_piece_room place m b l st nx q ww em eb f g =
           let most = begin_most pos place end m b (2 * (at - holes)) em eb w.few in
           within_on p₀ q (8 * b + 3 * (at - holes) + 4) (13 + 3 * (nx - st)) (drawn_most (length s) to) ww
           (grown_on p₀ p q (8 * pos + 3 * (at - holes)) (4 + 8 * (b - pos)) (8 * b + 3 * (at - holes) + 4) w.grown g
           (sum_segments pos b (at - holes) (begin_low pos m b eb)))
-          (room_piece b (at - holes) (nx - st) (length s) to end most end-most
+          (room_piece b (at - holes) (nx - st) (length s) to end most end_most
           (rw (passed_hole at holes st nx f.begins f.order w.low) (passed nx holes (length s) f.inside)))
 
       module _ (place m b l st nx c : ℕ) (out1 out2 : List ℕ) (p1 p2 : Line) (em : m ≡ place - (place - end)) (eb : b ≡ pos + (m - pos))
           (f : FoundHole s at place l st nx) (g1 : LineGrown p p1 (4 + 8 * (b - pos))) (d1 : DrawsPart out p a (part segs holes s) pos b out1 p1)
           (g2 : LineGrown p1 p2 (9 + 3 * (nx - st))) (d2 : PushesPiece out1 p1 a l s st nx texts out2 p2)
           (fc : c ≤ 2 * length (part st nx s)) (ec : CountsPiece l (part st nx s) c) where
-        next-few : b + c ≤ end + 2 * (nx - holes)
-        next-few =
+        next_few : b + c ≤ end + 2 * (nx - holes)
+        next_few =
             few_next b c (at - holes) (nx - holes) (nx - st) end (begin_most pos place end m b (2 * (at - holes)) em eb w.few) (rw f.size at fc)
             (passed_hole at holes st nx f.begins f.order w.low)
 
-        next-grown : LineGrown p₀ p2 (8 * (b + c) + 3 * (nx - holes))
-        next-grown =
+        next_grown : LineGrown p₀ p2 (8 * (b + c) + 3 * (nx - holes))
+        next_grown =
             grown_on p₀ p1 p2 (8 * b + 3 * (at - holes) + 4) (9 + 3 * (nx - st)) (8 * (b + c) + 3 * (nx - holes))
             (grown_on p₀ p p1 (8 * pos + 3 * (at - holes)) (4 + 8 * (b - pos)) (8 * b + 3 * (at - holes) + 4) w.grown g1
             (sum_segments pos b (at - holes) (begin_low pos m b eb)))
             g2 (grown_next b c (at - holes) (nx - holes) (nx - st) (passed_hole at holes st nx f.begins f.order w.low))
 
         -- one hole on
-        pub draw-on : length out2 ≡ length out₀ → Drawing out2 p2 (b + c) nx
+        pub draw_on : length out2 ≡ length out₀ → Drawing out2 p2 (b + c) nx
         unfolding into_tagged_from
-        draw-on same =
+        draw_on same =
             record {
               low = omega (arith, f.begins, f.order, w.low);
               inside = f.inside;
               size = same;
-              few = next-few;
-              grown = next-grown;
+              few = next_few;
+              grown = next_grown;
               left = λ hs fits st₀ l₀ held.
                   let (m₁, rs, fr, hm, eq) = w.left hs fits st₀ l₀ held in
                   let x = fits_first (length (part segs holes s)) s at place l st nx rs f fr in
                   let S = stretch_to (part segs holes s) to in
                   let hp = x.one.place in
                   let q = x.one.piece in
-                  let inner : hp ≤ end = omega (arith, x.ends, own-length) in
+                  let inner : hp ≤ end = omega (arith, x.ends, own_length) in
                   let eh : b ≡ pos + (hp - (hp - end) - pos) = rw (x.place_is, ← em) eb in
                   let far : b - pos ≤ length S - pos = rw end_length (reaches pos m end b eb (min_most place end m em)) in
                   let held1 : Held st₀ (up_to_hole a S m₁ pos hp) out1 p1 = rw (up_to_hole_lem a S m₁ pos hp end b inner eh) at (d1 to far st₀ m₁ hm) in
@@ -239,38 +239,38 @@ module _ (out₀ : List ℕ) (p₀ : Line) (a : ℕ) (s : List ℕ) (segs holes 
             }
 
       -- a rest that is no hole is not there
-      pub draw-broken : RawAt s at Broken → DrawsHoles out₀ p₀ a s segs holes to texts out p
-      draw-broken r hs fits st l held = let (m₁, rs, fr, hm, eq) = w.left hs fits st l held in absurd (hole_torn s at r rs fr.reads)
+      pub draw_broken : RawAt s at Broken → DrawsHoles out₀ p₀ a s segs holes to texts out p
+      draw_broken r hs fits st l held = let (m₁, rs, fr, hm, eq) = w.left hs fits st l held in absurd (hole_torn s at r rs fr.reads)
 
       -- and nothing more is drawn
-      pub draw-little : LineGrown p₀ p (drawn_most (length s) to)
-      draw-little =
-          let e = end-most in
+      pub draw_little : LineGrown p₀ p (drawn_most (length s) to)
+      draw_little =
+          let e = end_most in
           let i : at - holes ≤ length s = omega (arith, w.inside) in
           grown_on p₀ p p (8 * pos + 3 * (at - holes)) 0 (drawn_most (length s) to) w.grown
           (record { base = refl; piece = w.grown.piece; on = omega arith; at = omega arith; wider = omega arith; cols = omega arith })
           (omega (arith, w.few, e, i))
 
       -- room for the last segments
-      pub draw-last-room : Within p₀ (drawn_most (length s) to) → Within p (8 + 8 * (end - pos))
-      draw-last-room ww =
-          let e = end-most in
+      pub draw_last_room : Within p₀ (drawn_most (length s) to) → Within p (8 + 8 * (end - pos))
+      draw_last_room ww =
+          let e = end_most in
           let i : at - holes ≤ length s = omega (arith, w.inside) in
           let sum : 8 * pos + 8 * (end - pos) ≤ 8 * (end + 2 * (at - holes)) = omega (arith, w.few) in
           within_on p₀ p (8 * pos + 3 * (at - holes)) (8 + 8 * (end - pos)) (drawn_most (length s) to) ww w.grown (omega (arith, sum, e, i))
 
-      pub draw-last-grown : (q : Line) → LineGrown p q (4 + 8 * (end - pos)) → LineGrown p₀ q (drawn_most (length s) to)
-      draw-last-grown q g =
-          let e = end-most in
+      pub draw_last_grown : (q : Line) → LineGrown p q (4 + 8 * (end - pos)) → LineGrown p₀ q (drawn_most (length s) to)
+      draw_last_grown q g =
+          let e = end_most in
           let i : at - holes ≤ length s = omega (arith, w.inside) in
           let sum : 8 * pos + 8 * (end - pos) ≤ 8 * (end + 2 * (at - holes)) = omega (arith, w.few) in
           grown_on p₀ p q (8 * pos + 3 * (at - holes)) (4 + 8 * (end - pos)) (drawn_most (length s) to) w.grown g (omega (arith, sum, e, i))
 
       -- past the last hole
-      pub draw-end : (out1 : List ℕ) (p1 : Line) → RawAt s at End → DrawsPart out p a (part segs holes s) pos end out1 p1
+      pub draw_end : (out1 : List ℕ) (p1 : Line) → RawAt s at End → DrawsPart out p a (part segs holes s) pos end out1 p1
           → DrawsHoles out₀ p₀ a s segs holes to texts out1 p1
       unfolding into_tagged_from
-      draw-end out1 p1 r d hs fits st l held =
+      draw_end out1 p1 r d hs fits st l held =
           let (m₁, rs, fr, hm, eq) = w.left hs fits st l held in
           let S = stretch_to (part segs holes s) to in
           let far : end - pos ≤ length S - pos = rw end_length (omega arith) in

@@ -165,15 +165,15 @@ text_counts s to own r c ec ep a ps e ok =
     let w = pad_width ps to a f in
     record {
       cols = omega (arith, ec, c ps e, w);
-      pieces = ep ∙ some_test (length s + to) (pad_to ps to a) (has-piece w) has-none;
+      pieces = ep ∙ some_test (length s + to) (pad_to ps to a) (has_piece w) has_none;
     }
   where
-    has-piece : width (pad_to ps to a) ≡ width ps + (to - width ps) → 0 < length s + to → 1 ≤ length (pad_to ps to a)
-    has-piece w h =
+    has_piece : width (pad_to ps to a) ≡ width ps + (to - width ps) → 0 < length s + to → 1 ≤ length (pad_to ps to a)
+    has_piece w h =
         ⊎_elim (λ k. pad_some ps to a (omega (arith, read_size read_piece (raws s) ps e, raws_some s k))) (λ k. wide_some (pad_to ps to a) (omega arith)) (lt_or_le 0 (length s))
 
-    has-none : length s + to ≡ 0 → pad_to ps to a ≡ []
-    has-none h =
+    has_none : length s + to ≡ 0 → pad_to ps to a ≡ []
+    has_none h =
         let t : to ≡ 0 = omega arith in
         rw (t, no_pieces s ps (omega arith) e) (pad_nothing a)
 
@@ -202,7 +202,7 @@ border_counts s segs holes to end r k ee c ep a ss hs b ok =
     walk_width a (stretch_to ss to) (length ss) [] 0 hs (omega (arith, m, long)) b.within ok tt refl ∙ ap (λ (i : ℕ). walk_end i 0 hs) m in
     record {
       cols = c (length ss) hs (record { reads = b.punched; within = b.within; readable = ok }) long ∙ sym w;
-      pieces = ep ∙ some_test (length s - holes + end) (into_tagged_from a (stretch_to ss to) [] 0 hs) (has-piece m w) (has-none m);
+      pieces = ep ∙ some_test (length s - holes + end) (into_tagged_from a (stretch_to ss to) [] 0 hs) (has_piece m w) (has_none m);
     }
   where
     -- no bytes behind the segments, no holes
@@ -213,16 +213,16 @@ border_counts s segs holes to end r k ee c ep a ss hs b ok =
     plain : length s ≤ holes → walk_end end 0 hs ≡ end
     plain h = ap (walk_end end 0) (none_left h) ∙ end_plain end
 
-    has-piece : length (stretch_to ss to) ≡ end → width (into_tagged_from a (stretch_to ss to) [] 0 hs) ≡ walk_end end 0 hs → 0 < length s - holes + end
+    has_piece : length (stretch_to ss to) ≡ end → width (into_tagged_from a (stretch_to ss to) [] 0 hs) ≡ walk_end end 0 hs → 0 < length s - holes + end
         → 1 ≤ length (into_tagged_from a (stretch_to ss to) [] 0 hs)
-    has-piece m w h =
+    has_piece m w h =
         ⊎_elim
         (λ (x : holes < length s). tagged_holes a (stretch_to ss to) hs (some_of LaysFirst (read_holes (raw_holes (drop holes s))) hs b.punched.reads
         (lays_first (raw_holes (drop holes s)) (holes_some (drop holes s) (simp length-drop (omega arith))))))
         (λ (x : length s ≤ holes). wide_some (into_tagged_from a (stretch_to ss to) [] 0 hs) (omega (arith, w, plain x))) (lt_or_le holes (length s))
 
-    has-none : length (stretch_to ss to) ≡ end → length s - holes + end ≡ 0 → into_tagged_from a (stretch_to ss to) [] 0 hs ≡ []
-    has-none m h = ap (into_tagged_from a (stretch_to ss to) [] 0) (none_left (omega arith)) ∙ tagged_nothing a (stretch_to ss to) (omega (arith, m))
+    has_none : length (stretch_to ss to) ≡ end → length s - holes + end ≡ 0 → into_tagged_from a (stretch_to ss to) [] 0 hs ≡ []
+    has_none m h = ap (into_tagged_from a (stretch_to ss to) [] 0) (none_left (omega arith)) ∙ tagged_nothing a (stretch_to ss to) (omega (arith, m))
 
 -- ---- a line
 

@@ -227,11 +227,11 @@ text_pieces : (n b : ℕ) (bs : List ℕ) (l : Bytes) → n < 196608
 unfolding pieces tagged
 text_pieces n b [] l h = rw (on_one (item b n) (pieces l))
 text_pieces n b (a ∷ bs) l h =
-    let j : starts_with n (item a n ∷ tagged n bs ++ l) ≡ true = starts-self a (tagged n bs ++ l) in
+    let j : starts_with n (item a n ∷ tagged n bs ++ l) ≡ true = starts_self a (tagged n bs ++ l) in
     rw j (ap (on_first (item b n)) (text_pieces n a bs l h) ∙ on_more (item b n) (tagged n (a ∷ bs)) (starts_with n l) (pieces l))
   where
-    starts-self : (a : ℕ) (m : Bytes) → starts_with n (item a n ∷ m) ≡ true
-    starts-self a m = starts_item n a n m ∙ joins_self n h
+    starts_self : (a : ℕ) (m : Bytes) → starts_with n (item a n ∷ m) ≡ true
+    starts_self a m = starts_item n a n m ∙ joins_self n h
 
 name_pieces : (n b : ℕ) (bs : List ℕ) (l : Bytes) → starts_with n l ≡ false → starts_with name_tag l ≡ false
     → pieces (item b n ∷ tagged name_tag bs ++ l) ≡ (item b n ∷ tagged name_tag bs) ∷ pieces l

@@ -88,15 +88,15 @@ module _ (s : Setup) where
       → flat_hard_wrap s (char c t ∷ w) last b ≡ flat_hard_wrap s (char c t ∷ w) none (flat_force_flush_line s b)
   unfolding flat_hard_wrap wrap_char next_line
   flush_first c t w last b h e =
-      let f : left s (flat_force_flush_line s b) ≡ s.width = flushed-left in
-      let g : columns (flat_force_flush_line s b).line ≡ 0 = flushed-columns in
+      let f : left s (flat_force_flush_line s b) ≡ s.width = flushed_left in
+      let g : columns (flat_force_flush_line s b).line ≡ 0 = flushed_columns in
       rw (lt-leb (cols c) (left s b) h, e, f, g)
     where
-      flushed-columns : columns (flat_force_flush_line s b).line ≡ 0
-      flushed-columns = flushed_cols s b
+      flushed_columns : columns (flat_force_flush_line s b).line ≡ 0
+      flushed_columns = flushed_cols s b
 
-      flushed-left : left s (flat_force_flush_line s b) ≡ s.width
-      flushed-left = left_flushed s b
+      flushed_left : left s (flat_force_flush_line s b) ≡ s.width
+      flushed_left = left_flushed s b
 
   -- a stretch that fits, and then a character that does not, on a line with text
   pub splits : (t : Tag) (p : List ℕ) (c : ℕ) (q : List ℕ) (w : Line) (b : Block) (l : Line) → columns l + str_width p ≤ s.width → s.width < columns l + str_width p + cols c → 0 < length p + columns l

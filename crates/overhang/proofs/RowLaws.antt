@@ -159,8 +159,8 @@ module _ (s : RenderOptions) (height : ℕ) (collapse : Bool) (cells sheet : Lis
       pub hung : (cs : List Cell) (vs : List Hanging) → CellsFrom cells 0 cs → length cs ≤ 16 → all readable_cell cs ≡ true → HungFrom sheet from vs → all readable_hanging vs ≡ true
           → (st : List ℕ) (ls : List RenderLine) (ns : List (List ℕ)) → Emitted st ls ns [] out₀ p → Hung (row_slots vs cs) st ls ns ahead out q
 
-    pub turns-start : (ahead : Slots) → Bytes cells → Bytes sheet → SlotsIn cells sheet ahead → Begins cells sheet from ahead → Turns ahead out₀ p
-    turns-start ahead k l low begins =
+    pub turns_start : (ahead : Slots) → Bytes cells → Bytes sheet → SlotsIn cells sheet ahead → Begins cells sheet from ahead → Turns ahead out₀ p
+    turns_start ahead k l low begins =
         record {
           size = refl;
           low = low;
@@ -170,9 +170,9 @@ module _ (s : RenderOptions) (height : ℕ) (collapse : Bool) (cells sheet : Lis
         }
 
     module _ (ahead : Slots) (out : List ℕ) (q : Lines) (w : Turns ahead out q) where
-      pub turns-on : (rest : Slots) (seat : Seat) (out' : List ℕ) (r : Lines) → SlotsIn cells sheet rest → length out' ≡ length out
+      pub turns_on : (rest : Slots) (seat : Seat) (out' : List ℕ) (r : Lines) → SlotsIn cells sheet rest → length out' ≡ length out
           → HangingIn q r → FindsNext cells sheet ahead (Is seat rest) → HangsSeat out q s cells sheet seat collapse height out' r → Turns rest out' r
-      turns-on rest seat out' r low same more finds hangs =
+      turns_on rest seat out' r low same more finds hangs =
           record {
             size = same ∙ w.size;
             low = low;
@@ -180,10 +180,10 @@ module _ (s : RenderOptions) (height : ℕ) (collapse : Bool) (cells sheet : Lis
             hung = λ cs vs c few ok v fine st ls ns e. hung_on (row_slots vs cs) st ls ns ahead rest seat out out' q r (w.hung cs vs c few ok v fine st ls ns e) finds hangs;
           }
 
-      pub turns-end : (t : ℕ) → FindsNext cells sheet ahead (NoMore t) → HangsAll out₀ p s cells sheet from collapse height out q
-      turns-end t finds cs vs c few ok v fine st ls ns near e = hung_end (row_slots vs cs) st ls ns ahead out q t (w.hung cs vs c few ok v fine st ls ns e) finds
+      pub turns_end : (t : ℕ) → FindsNext cells sheet ahead (NoMore t) → HangsAll out₀ p s cells sheet from collapse height out q
+      turns_end t finds cs vs c few ok v fine st ls ns near e = hung_end (row_slots vs cs) st ls ns ahead out q t (w.hung cs vs c few ok v fine st ls ns e) finds
 
-      pub turns-far : Bytes sheet → length sheet < 2 ^ 63 → 11529215046068469760 < q.at → HangsAll out₀ p s cells sheet from collapse height out q
-      turns-far k short far cs vs c few ok v fine st ls ns near e =
+      pub turns_far : Bytes sheet → length sheet < 2 ^ 63 → 11529215046068469760 < q.at → HangsAll out₀ p s cells sheet from collapse height out q
+      turns_far k short far cs vs c few ok v fine st ls ns near e =
           hung_far (row_slots vs cs) st ls ns ahead out₀ out p q from (length sheet - from) (w.hung cs vs c few ok v fine st ls ns e) e near.near
           (row_spent s height collapse sheet from cs vs k few v) (omega (arith, near.inside, short)) far

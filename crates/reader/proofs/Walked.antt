@@ -419,7 +419,7 @@ module _ (s : List ℕ) where
     where
       go : LinesBack fuel → (f : Field) → field_at at (drop at s) ≡ f
           → (lines_from (suc fuel) at s ≡ ls) × Behind (lines_end (suc fuel) at s) (raws (drop at s))
-      go again (field.At l start next) k = by-letter (eqb l 0x56) refl (eqb l 0x46) refl
+      go again (field.At l start next) k = by_letter (eqb l 0x56) refl (eqb l 0x46) refl
         where
           g : FieldIs s at l start next
           g = found s at l start next k
@@ -427,16 +427,16 @@ module _ (s : List ℕ) where
           rs : List Raw
           rs = raws (drop next s)
 
-          by-letter : (x : Bool) → eqb l 0x56 ≡ x → (y : Bool) → eqb l 0x46 ≡ y
+          by_letter : (x : Bool) → eqb l 0x56 ≡ x → (y : Bool) → eqb l 0x46 ≡ y
               → (lines_from (suc fuel) at s ≡ ls) × Behind (lines_end (suc fuel) at s) (raws (drop at s))
-          by-letter true x y z =
+          by_letter true x y z =
               let v = eqb-true l 0x56 x in
               let b = before_v l (part start next s) rs v in
               let f = line_over at s l start next k v in
               let here = sym (line_end_is at s _ (sym f)) in
               let none_left : ls ≡ [] = read_none read_line ls (rw (g.fields, b.0) at e) in
               (rw (← f) (sym none_left), rw (here, lines_end_here fuel at s here, g.fields, b.0) (refl, refl))
-          by-letter false x true z =
+          by_letter false x true z =
               let n = eqb-true l 0x46 z in
               let b = before_other l (part start next s) rs x in
               let d = before_f l (part start next s) (before_hanging rs) n in
@@ -444,7 +444,7 @@ module _ (s : List ℕ) where
               let here = sym (line_end_is at s _ (sym f)) in
               let none_left : ls ≡ [] = read_none read_line ls (rw (g.fields, b.0, d.0) at e) in
               (rw (← f) (sym none_left), rw (here, lines_end_here fuel at s here, g.fields, b.0, d.1) (refl, refl))
-          by-letter false x false z =
+          by_letter false x false z =
               let b = before_other l (part start next s) rs x in
               let d = before_line l (part start next s) (before_hanging rs) z in
               let r = read_first read_line (whole l (part start next s)) (before_names (before_hanging rs)) ls (rw (g.fields, b.0, d.0) at e) in
@@ -499,7 +499,7 @@ module _ (s : List ℕ) where
     where
       go : NamesBack fuel → (f : Field) → field_at at (drop at s) ≡ f
           → (names_from (suc fuel) at s ≡ ns) × (raws (drop (names_end (suc fuel) at s) s) ≡ from_hanging (raws (drop at s)))
-      go again (field.At l start next) k = by-letter (eqb l 0x56) refl
+      go again (field.At l start next) k = by_letter (eqb l 0x56) refl
         where
           g : FieldIs s at l start next
           g = found s at l start next k
@@ -507,15 +507,15 @@ module _ (s : List ℕ) where
           rs : List Raw
           rs = raws (drop next s)
 
-          by-letter : (x : Bool) → eqb l 0x56 ≡ x → (names_from (suc fuel) at s ≡ ns) × (raws (drop (names_end (suc fuel) at s) s) ≡ from_hanging (raws (drop at s)))
-          by-letter true x =
+          by_letter : (x : Bool) → eqb l 0x56 ≡ x → (names_from (suc fuel) at s ≡ ns) × (raws (drop (names_end (suc fuel) at s) s) ≡ from_hanging (raws (drop at s)))
+          by_letter true x =
               let v = eqb-true l 0x56 x in
               let b = before_v l (part start next s) rs v in
               let f = waiting_over at s l start next k v in
               let here = sym (name_end_is at s _ (sym f)) in
               let none_left : ns ≡ [] = read_none read_name ns (rw (g.fields, b.0) at e) in
               (rw (← f) (sym none_left), rw (here, names_end_here fuel at s here, g.fields) (sym b.1))
-          by-letter false x =
+          by_letter false x =
               let b = before_other l (part start next s) rs x in
               let r = read_first read_name (whole l (part start next s)) (before_hanging rs) ns (rw (g.fields, b.0) at e) in
               let q = name_first fuel at l start next r.one g.order g.inside k (name_of l (part start next s) r.one r.first) in

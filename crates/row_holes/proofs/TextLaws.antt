@@ -333,7 +333,7 @@ module _ (out₀ : List ℕ) (p : Lines) (a : ℕ) (segs cells sheet : List ℕ)
     pub size : length out ≡ length out₀
     pub begun : LineBegun p line 2500000
     pub low : SlotsIn cells sheet st
-    pub x-low : x < 8589934592
+    pub x_low : x < 8589934592
     pub same : (o : RenderOptions) → o.annotation ≡ a → (xs : List Slot) (total : ℕ) → SlotsLeft cells sheet first xs total → Every WideSeat xs
         → any_past (length segs) (holes_of o height 0 (map (column_of collapse) xs)) ≡ false
         → TextAhead o out line st x (border_into_tagged_line a segs (holes_of o height 0 (map (column_of collapse) xs))) total
@@ -347,7 +347,7 @@ module _ (out₀ : List ℕ) (p : Lines) (a : ℕ) (segs cells sheet : List ℕ)
         size = refl;
         begun = rw e (record { base = refl; on = omega arith; piece = omega arith; at = omega arith; cols = omega arith });
         low = i;
-        x-low = omega arith;
+        x_low = omega arith;
         same = λ o ea xs total l w f.
             record {
               more = xs;
@@ -364,11 +364,11 @@ module _ (out₀ : List ℕ) (p : Lines) (a : ℕ) (segs cells sheet : List ℕ)
 
   module _ (out : List ℕ) (line : Line) (st : Slots) (x : ℕ) (w : TextLaid out line st x) where
     -- Room for a seat, and for the last segments.
-    pub text-room : p.at < 2 ^ 61 → Within line hole_most
-    text-room b = record { base = w.begun.on; piece = w.begun.piece; room = omega (arith, w.begun.at, b); cols = omega (arith, w.begun.cols) }
+    pub text_room : p.at < 2 ^ 61 → Within line hole_most
+    text_room b = record { base = w.begun.on; piece = w.begun.piece; room = omega (arith, w.begun.at, b); cols = omega (arith, w.begun.cols) }
 
-    pub text-last : p.at < 2 ^ 61 → Within line segments_most
-    text-last b = record { base = w.begun.on; piece = w.begun.piece; room = omega (arith, w.begun.at, b); cols = omega (arith, w.begun.cols) }
+    pub text_last : p.at < 2 ^ 61 → Within line segments_most
+    text_last b = record { base = w.begun.on; piece = w.begun.piece; room = omega (arith, w.begun.at, b); cols = omega (arith, w.begun.cols) }
 
     -- One seat more.
     pub text_on : (out' : List ℕ) (r : Line) (seat : Seat) (rest_of : Slots) (x' : ℕ) → length out' ≡ length out → is_long line ≡ false → FoundIn cells sheet st seat rest_of
@@ -386,7 +386,7 @@ module _ (out₀ : List ℕ) (p : Lines) (a : ℕ) (segs cells sheet : List ℕ)
                 cols = omega (arith, g.cols, (short_line line short).0);
               };
           low = found.rest_in;
-          x-low = low;
+          x_low = low;
           same = λ o ea xs total l wide f. go o ea _ total (w.same o ea xs total l wide f);
         }
       where
@@ -416,8 +416,8 @@ module _ (out₀ : List ℕ) (p : Lines) (a : ℕ) (segs cells sheet : List ℕ)
             }
 
     -- The line is too long.
-    pub text-long : is_long line ≡ true → PushesHoles out₀ p a segs cells sheet first collapse height out line
-    text-long e o ea xs total l v f =
+    pub text_long : is_long line ≡ true → PushesHoles out₀ p a segs cells sheet first collapse height out line
+    text_long e o ea xs total l v f =
         let h = w.same o ea xs total l v f in
         record {
           pieces = h.pieces;
@@ -427,10 +427,10 @@ module _ (out₀ : List ℕ) (p : Lines) (a : ℕ) (segs cells sheet : List ℕ)
         }
 
     -- No seat is left: the last segments.
-    pub text-end : (out' : List ℕ) (r : Line) (t : ℕ) → FindsNext cells sheet st (NoMore t) → PushesSegments out line a segs (length segs) out' r
+    pub text_end : (out' : List ℕ) (r : Line) (t : ℕ) → FindsNext cells sheet st (NoMore t) → PushesSegments out line a segs (length segs) out' r
         → PushesHoles out₀ p a segs cells sheet first collapse height out' r
     unfolding holes_of
-    text-end out' r t finds push o ea xs total l v f =
+    text_end out' r t finds push o ea xs total l v f =
         let h = w.same o ea xs total l v f in
         let none : h.more ≡ [] = (finds h.more total h.goes).0 in
         let is : up_to_hole a segs h.pieces line.cols (length segs) ≡ border_into_tagged_line a segs (holes_of o height 0 (map (column_of collapse) xs)) =
@@ -443,11 +443,11 @@ module _ (out₀ : List ℕ) (p : Lines) (a : ℕ) (segs cells sheet : List ℕ)
           whole = λ _. is;
         }
 
-    pub long-begun : LineBegun p line 8000000
-    long-begun = record { base = w.begun.base; on = w.begun.on; piece = w.begun.piece; at = omega (arith, w.begun.at); cols = omega (arith, w.begun.cols) }
+    pub long_begun : LineBegun p line 8000000
+    long_begun = record { base = w.begun.base; on = w.begun.on; piece = w.begun.piece; at = omega (arith, w.begun.at); cols = omega (arith, w.begun.cols) }
 
-    pub end-begun : (r : Line) → LineGrown line r segments_most → LineBegun p r 8000000
-    end-begun r g =
+    pub end_begun : (r : Line) → LineGrown line r segments_most → LineBegun p r 8000000
+    end_begun r g =
         record {
           base = g.base ∙ w.begun.base;
           on = omega (arith, g.base, g.on, w.begun.on);

@@ -128,9 +128,9 @@ module _ (out : List ℕ) (p : Lines) (names : List ℕ) (s : RenderOptions) (ce
   module _ (begun line : Line) (new mid ats' marks' : List ℕ) (b : BeginsLine out names new begun)
       (f : LaysFull new begun s cells sheet ats ends widths tos hungs collapse n more rest i marks mid ats' marks' line) (size : length mid ≡ length out) where
     -- A line that is not too long is added.
-    pub full-added : (out' : List ℕ) → is_long line ≡ false → AddsTextLine mid p line s out' r
+    pub full_added : (out' : List ℕ) → is_long line ≡ false → AddsTextLine mid p line s out' r
         → AddsFullLine out p names s cells sheet ats ends widths tos hungs collapse n more rest i marks out' ats' marks' r
-    full-added out' e g ns reads cs xs at row fine st ls em =
+    full_added out' e g ns reads cs xs at row fine st ls em =
         let t = f out (map fragment ns) (b ns reads) cs xs at row fine in
         let is = ap text (t.whole e) ∙ sym (line_named s ns (all_columns collapse i cs xs)) in
         record {
@@ -139,9 +139,9 @@ module _ (out : List ℕ) (p : Lines) (names : List ℕ) (s : RenderOptions) (ce
         }
 
     -- One that is too long is counted.
-    pub full-counted : is_long line ≡ true → r.count ≡ p.count + 1 → r.long ≡ true
+    pub full_counted : is_long line ≡ true → r.count ≡ p.count + 1 → r.long ≡ true
         → AddsFullLine out p names s cells sheet ats ends widths tos hungs collapse n more rest i marks mid ats' marks' r
-    full-counted e count long ns reads cs xs at row fine st ls em =
+    full_counted e count long ns reads cs xs at row fine st ls em =
         let t = f out (map fragment ns) (b ns reads) cs xs at row fine in
         let l = column_line s (map fragment ns) (all_columns collapse i cs xs) in
         let x : fits (padded s (text l)) ≡ false = long_unfit s l (omega (arith, t.grows, long_size out t.pieces mid line t.held e)) in
@@ -179,7 +179,7 @@ module _ (out₀ : List ℕ) (p : Lines) (names : List ℕ) (s : RenderOptions) 
     pub count : q.count ≡ p.count + i
     pub size : length out ≡ length out₀
     pub same : length ats ≡ length ats₀
-    pub marks-same : length marks ≡ length marks₀
+    pub marks_same : length marks ≡ length marks₀
     pub left : (ns : List (List ℕ)) → read_all read_name (raws names) ≡ some ns
         → (cs : List Column) (xs : List Slot) → RowAt cells sheet ats₀ ends widths tos hungs collapse n more rest 0 marks₀ cs xs
         → (row : ℕ) → lines_misfit row height (all_columns collapse 0 cs xs) ≡ false → (st : List ℕ) (ls : List RenderLine) → Emitted st ls [] [] out₀ p
@@ -196,7 +196,7 @@ module _ (out₀ : List ℕ) (p : Lines) (names : List ℕ) (s : RenderOptions) 
         count = omega arith;
         size = refl;
         same = refl;
-        marks-same = refl;
+        marks_same = refl;
         left = λ ns reads cs xs at row fine st ls e.
             let new = column_lines s height (all_columns collapse 0 cs xs) in
             record {
@@ -213,12 +213,12 @@ module _ (out₀ : List ℕ) (p : Lines) (names : List ℕ) (s : RenderOptions) 
 
   module _ (out ats marks : List ℕ) (q : Lines) (from i : ℕ) (w : FullLaid out ats marks q from i) where
     -- One line more.
-    pub fulls-on : (out' ats' marks' : List ℕ) (r : Lines) (end : ℕ) → end ≡ length names → i < height → p.count + height < 1000000 → q.long ≡ false
+    pub fulls_on : (out' ats' marks' : List ℕ) (r : Lines) (end : ℕ) → end ≡ length names → i < height → p.count + height < 1000000 → q.long ≡ false
         → length out' ≡ length out → length ats' ≡ length ats → length marks' ≡ length marks → OneLineMore q r
         → AddsFullLine out q (take (length names - from) (drop from names)) s cells sheet ats ends widths tos hungs collapse n more rest i marks out' ats' marks' r
         → FullLaid out' ats' marks' r end (i + 1)
     unfolding read_all
-    fulls-on out' ats' marks' r end all h room short size same marks-same on f =
+    fulls_on out' ats' marks' r end all h room short size same marks_same on f =
         let m : height - i ≡ suc (height - (i + 1)) = omega arith in
         record {
           part = omega arith;
@@ -227,7 +227,7 @@ module _ (out₀ : List ℕ) (p : Lines) (names : List ℕ) (s : RenderOptions) 
           count = omega (arith, on.count, w.count);
           size = size ∙ w.size;
           same = same ∙ w.same;
-          marks-same = marks-same ∙ w.marks-same;
+          marks_same = marks_same ∙ w.marks_same;
           left = λ ns reads cs xs at row fine st ls e.
               let t = w.left ns reads cs xs at row fine st ls e in
               let (ds, d, draws, later) = t.goes short in
@@ -260,16 +260,16 @@ module _ (out₀ : List ℕ) (p : Lines) (names : List ℕ) (s : RenderOptions) 
         }
 
     -- A line is too long: the others are counted.
-    pub fulls-long : (r : Lines) → q.long ≡ true → r.long ≡ true → r.count ≡ q.count + (height - i)
+    pub fulls_long : (r : Lines) → q.long ≡ true → r.long ≡ true → r.count ≡ q.count + (height - i)
         → AddsFull out₀ p names s cells sheet ats₀ ends widths tos hungs collapse n more rest marks₀ height out r
-    fulls-long r long rlong count ns reads cs xs at row fine st ls e =
+    fulls_long r long rlong count ns reads cs xs at row fine st ls e =
         let t = w.left ns reads cs xs at row fine st ls e in
         subst (λ (z : List RenderLine). Emitted st z [] [] out r) t.are
         (long_more st t.ms t.later out q r t.emitted long rlong (count ∙ ap (λ (z : ℕ). q.count + z) (sym t.count)))
 
     -- All lines.
-    pub fulls-end : height ≤ i → AddsFull out₀ p names s cells sheet ats₀ ends widths tos hungs collapse n more rest marks₀ height out q
-    fulls-end h ns reads cs xs at row fine st ls e =
+    pub fulls_end : height ≤ i → AddsFull out₀ p names s cells sheet ats₀ ends widths tos hungs collapse n more rest marks₀ height out q
+    fulls_end h ns reads cs xs at row fine st ls e =
         let t = w.left ns reads cs xs at row fine st ls e in
         let none : t.later ≡ [] = empty t.later (omega (arith, t.count)) in
         let all_of : t.ms ≡ ls ++ map (padded s) (named_lines ns (column_lines s height (all_columns collapse 0 cs xs))) =

@@ -33,9 +33,9 @@ module _ (s : List ℕ) (at end : ℕ) (collapse : Bool) where
 
   module _ (letter start next : ℕ) (h : at < end) (e : field_at at (drop at s) ≡ At letter start next) where
     -- The last border is left, which was taken off.
-    pub moves-off : leaves_pattern collapse letter next end ≡ true → MovesOn s at end collapse at
+    pub moves_off : leaves_pattern collapse letter next end ≡ true → MovesOn s at end collapse at
     unfolding next_column
-    moves-off off w to c is =
+    moves_off off w to c is =
         let (co, ne, d) = taken_off collapse letter next end off in
         let t = first_line s at end letter start next is.ms h e is.lines_at in
         let (a, segs, hs, one) = border_of_lem t.one (line_border letter (part start next s) t.one t.reads d) in
@@ -51,9 +51,9 @@ module _ (s : List ℕ) (at end : ℕ) (collapse : Bool) where
         }
 
     -- A line is left.
-    pub moves-line : leaves_pattern collapse letter next end ≡ false → MovesOn s at end collapse next
+    pub moves_line : leaves_pattern collapse letter next end ≡ false → MovesOn s at end collapse next
     unfolding next_column
-    moves-line on w to c is =
+    moves_line on w to c is =
         let t = first_line s at end letter start next is.ms h e is.lines_at in
         let x = first_of_lem collapse t.one is.ms t.more c t.are (λ co none. line_text letter (part start next s) t.one t.reads (stays_on collapse letter next end on co (t.ends none))) is.are in
         record {

@@ -110,9 +110,9 @@ module _ (out₀ : List ℕ) (p : Lines) (line₀ : Line) (s : RenderOptions) (c
   -- with the numbers
   pub record RestLaid (out marks : List ℕ) (line : Line) (st : Slots) (q k : ℕ) : Type 0 where
     pub size : length out ≡ length out₀
-    pub marks-size : length marks ≡ length marks₀
+    pub marks_size : length marks ≡ length marks₀
     pub begun : LineBegun p line 2100000
-    pub slots-in : SlotsIn cells sheet st
+    pub slots_in : SlotsIn cells sheet st
     pub left : (xs : List Slot) (total : ℕ) → SlotsLeft cells sheet first xs total → AllMarked marks₀ collapse i xs
         → (row : ℕ) → line_misfit row (columns_down collapse i xs) ≡ false → (st₀ : List ℕ) (l : List Piece) → Held st₀ l out₀ line₀
         → SomeLaid out marks line st q k xs total row st₀ l
@@ -122,9 +122,9 @@ module _ (out₀ : List ℕ) (p : Lines) (line₀ : Line) (s : RenderOptions) (c
   rest_start b w =
       record {
         size = refl;
-        marks-size = refl;
+        marks_size = refl;
         begun = b;
-        slots-in = w;
+        slots_in = w;
         left = λ xs total a m row fine st₀ l h.
             record {
               ys = [];
@@ -144,12 +144,12 @@ module _ (out₀ : List ℕ) (p : Lines) (line₀ : Line) (s : RenderOptions) (c
 
   module _ (out marks : List ℕ) (line : Line) (st : Slots) (q k : ℕ) (w : RestLaid out marks line st q k) where
     -- Room for an edge.
-    pub rest-edge : p.at < 2 ^ 61 → Within line 16
-    rest-edge b = record { base = w.begun.on; piece = w.begun.piece; room = omega (arith, w.begun.at, b); cols = omega (arith, w.begun.cols) }
+    pub rest_edge : p.at < 2 ^ 61 → Within line 16
+    rest_edge b = record { base = w.begun.on; piece = w.begun.piece; room = omega (arith, w.begun.at, b); cols = omega (arith, w.begun.cols) }
 
     -- Room for a seat.
-    pub rest-room : (e : Line) → p.at < 2 ^ 61 → LineGrown line e 16 → Within e seat_most
-    rest-room e b g =
+    pub rest_room : (e : Line) → p.at < 2 ^ 61 → LineGrown line e 16 → Within e seat_most
+    rest_room e b g =
         record {
           base = omega (arith, g.base, g.on, w.begun.on);
           piece = g.piece;
@@ -158,8 +158,8 @@ module _ (out₀ : List ℕ) (p : Lines) (line₀ : Line) (s : RenderOptions) (c
         }
 
     -- The line is too long.
-    pub rest-long : is_long line ≡ true → LaysRest out₀ line₀ s cells sheet first collapse n i marks₀ out marks line
-    rest-long e xs total a m row fine st₀ l h =
+    pub rest_long : is_long line ≡ true → LaysRest out₀ line₀ s cells sheet first collapse n i marks₀ out marks line
+    rest_long e xs total a m row fine st₀ l h =
         let t = w.left xs total a m row fine st₀ l h in
         record {
           pieces = t.pieces;
@@ -186,14 +186,14 @@ module _ (out₀ : List ℕ) (p : Lines) (line₀ : Line) (s : RenderOptions) (c
         }
 
     -- One seat more.
-    pub rest-on : (mid out' marks' : List ℕ) (e : Line) (seat : Seat) (rest : Slots) (r : Added) → is_long line ≡ false → FoundIn cells sheet st seat rest → FindsNext cells sheet st (Is seat rest)
+    pub rest_on : (mid out' marks' : List ℕ) (e : Line) (seat : Seat) (rest : Slots) (r : Added) → is_long line ≡ false → FoundIn cells sheet st seat rest → FindsNext cells sheet st (Is seat rest)
         → LineGrown line e 16 → OpensSeat out line s q mid e → length out' ≡ length out → MarkedIn e marks k marks' r
         → AddsFound mid e s cells sheet seat collapse i marks k out' marks' r → RestLaid out' marks' r.line rest 1 r.next
     unfolding columns_from line_misfit
-    rest-on mid out' marks' e seat rest r short found finds g o size a f =
+    rest_on mid out' marks' e seat rest r short found finds g o size a f =
         record {
           size = size ∙ w.size;
-          marks-size = a.set.size ∙ w.marks-size;
+          marks_size = a.set.size ∙ w.marks_size;
           begun =
               record {
                 base = a.grown.base ∙ g.base ∙ w.begun.base;
@@ -202,7 +202,7 @@ module _ (out₀ : List ℕ) (p : Lines) (line₀ : Line) (s : RenderOptions) (c
                 at = omega (arith, a.grown.at, g.at, w.begun.base, w.begun.on, (short_line line short).1);
                 cols = omega (arith, a.grown.cols, g.cols, (short_line line short).0);
               };
-          slots-in = found.rest_in;
+          slots_in = found.rest_in;
           left = λ xs total ahead m row fine st₀ l h.
               let t = w.left xs total ahead m row fine st₀ l h in
               let x = finds t.zs total t.ahead in
@@ -239,7 +239,7 @@ module _ (out₀ : List ℕ) (p : Lines) (line₀ : Line) (s : RenderOptions) (c
                 fine = or_second (cell_misfit row c c.lines) (line_misfit row cs) draws;
                 gone = λ j low.
                     ⊎_elim (λ (v : j < length t.ys). mark_stays marks marks' j collapse (suc i) (slot_at xs j) a.set.size (apart j (λ b. omega arith)) (t.gone j v))
-                    (λ (v : length t.ys ≤ j). last-gone j (length t.ys) (omega (arith, low, count)) (slot_at xs j) x.one
+                    (λ (v : length t.ys ≤ j). last_gone j (length t.ys) (omega (arith, low, count)) (slot_at xs j) x.one
                     (ap (λ (z : ℕ). slot_at xs z) (same_place_lem j (length t.ys) (omega (arith, low, count))) ∙ here) t.mark t.past y.moved)
                     (lt_or_le j (length t.ys));
                 waits = λ j v low. mark_stays marks marks' j collapse i (slot_at xs j) a.set.size (apart j (λ b. omega (arith, v, count))) (t.waits j (omega (arith, v, count)) low);
@@ -250,9 +250,9 @@ module _ (out₀ : List ℕ) (p : Lines) (line₀ : Line) (s : RenderOptions) (c
         same_place_lem j m b = b
 
         -- the mark of the seat itself, if it has one
-        last-gone : (j m : ℕ) → j ≡ m → (u v : Slot) → u ≡ v → (k < length marks / 2 → k ≡ m) → (length marks / 2 ≤ k → length marks / 2 ≤ m)
+        last_gone : (j m : ℕ) → j ≡ m → (u v : Slot) → u ≡ v → (k < length marks / 2 → k ≡ m) → (length marks / 2 ≤ k → length marks / 2 ≤ m)
             → Marked marks' k collapse (suc i) v → Marked marks' j collapse (suc i) u
-        last-gone j m je u v ue mk pk f low =
+        last_gone j m je u v ue mk pk f low =
             ⊎_elim (λ (b : k < length marks / 2). let kj : k ≡ j = mk b ∙ sym je in
             subst (λ (z : Slot). StandsAt (lines_bytes z.lines) (mark_at marks' j) collapse (suc i) z) (sym ue)
             (subst (λ (z : ℕ). Marked marks' z collapse (suc i) v) kj f low))
@@ -297,7 +297,7 @@ module _ (cells sheet : List ℕ) (first : Slots) (collapse : Bool) where
   -- with the numbers
   pub record MarksSet (marks₀ marks : List ℕ) (st : Slots) (k : ℕ) : Type 0 where
     pub size : length marks ≡ length marks₀
-    pub slots-in : SlotsIn cells sheet st
+    pub slots_in : SlotsIn cells sheet st
     pub left : (xs : List Slot) (total : ℕ) → SlotsLeft cells sheet first xs total → SomeMarked marks st k xs total
 
   -- None at first.
@@ -305,26 +305,26 @@ module _ (cells sheet : List ℕ) (first : Slots) (collapse : Bool) where
   marks_start marks w =
       record {
         size = refl;
-        slots-in = w;
+        slots_in = w;
         left = λ xs total a. record { ys = []; zs = xs; are = refl; ahead = a; mark = λ _. refl; past = λ x. x; gone = λ j x. absurd (omega arith) };
       }
 
   module _ (marks₀ marks : List ℕ) (st : Slots) (k : ℕ) (w : MarksSet marks₀ marks st k) where
     -- All of them.
-    pub marks-end : (t : ℕ) → FindsNext cells sheet st (NoMore t) → StartsMarks cells sheet first collapse marks
-    marks-end n f xs total a =
+    pub marks_end : (t : ℕ) → FindsNext cells sheet st (NoMore t) → StartsMarks cells sheet first collapse marks
+    marks_end n f xs total a =
         let t = w.left xs total a in
         let none : t.zs ≡ [] = (f t.zs total t.ahead).0 in
         let all_of : xs ≡ t.ys = t.are ∙ ap (λ (z : List Slot). t.ys ++ z) none ∙ append-nil t.ys in
         λ j y. t.gone j (subst (λ (z : List Slot). j < length z) all_of y)
 
     -- One more.
-    pub marks-on : (marks' : List ℕ) (seat : Seat) (rest : Slots) (r : ℕ) → FoundIn cells sheet st seat rest → FindsNext cells sheet st (Is seat rest) → SomeSet marks k marks' r
+    pub marks_on : (marks' : List ℕ) (seat : Seat) (rest : Slots) (r : ℕ) → FoundIn cells sheet st seat rest → FindsNext cells sheet st (Is seat rest) → SomeSet marks k marks' r
         → StartsMark cells sheet seat collapse k marks' → MarksSet marks₀ marks' rest r
-    marks-on marks' seat rest r found finds a f =
+    marks_on marks' seat rest r found finds a f =
         record {
           size = a.set.size ∙ w.size;
-          slots-in = found.rest_in;
+          slots_in = found.rest_in;
           left = λ xs total ahead.
               let t = w.left xs total ahead in
               let x = finds t.zs total t.ahead in
@@ -348,7 +348,7 @@ module _ (cells sheet : List ℕ) (first : Slots) (collapse : Bool) where
                     (λ (v : M ≤ k). omega (arith, same, count, t.past v)) (lt_or_le k M);
                 gone = λ j low.
                     ⊎_elim (λ (v : j < length t.ys). mark_stays marks marks' j collapse 0 (slot_at xs j) a.set.size (apart j (λ b. omega arith)) (t.gone j v))
-                    (λ (v : length t.ys ≤ j). last-marked j (length t.ys) (omega (arith, low, count)) (slot_at xs j) x.one
+                    (λ (v : length t.ys ≤ j). last_marked j (length t.ys) (omega (arith, low, count)) (slot_at xs j) x.one
                     (ap (λ (z : ℕ). slot_at xs z) (same_place_lem j (length t.ys) (omega (arith, low, count))) ∙ here) t.mark t.past (f x.one x.seat_is))
                     (lt_or_le j (length t.ys));
               };
@@ -358,9 +358,9 @@ module _ (cells sheet : List ℕ) (first : Slots) (collapse : Bool) where
         same_place_lem j m b = b
 
         -- the mark of the seat itself, if it has one
-        last-marked : (j m : ℕ) → j ≡ m → (u v : Slot) → u ≡ v → (k < length marks / 2 → k ≡ m) → (length marks / 2 ≤ k → length marks / 2 ≤ m)
+        last_marked : (j m : ℕ) → j ≡ m → (u v : Slot) → u ≡ v → (k < length marks / 2 → k ≡ m) → (length marks / 2 ≤ k → length marks / 2 ≤ m)
             → Marked marks' k collapse 0 v → Marked marks' j collapse 0 u
-        last-marked j m je u v ue mk pk g low =
+        last_marked j m je u v ue mk pk g low =
             ⊎_elim (λ (b : k < length marks / 2). let kj : k ≡ j = mk b ∙ sym je in
             subst (λ (z : Slot). StandsAt (lines_bytes z.lines) (mark_at marks' j) collapse 0 z) (sym ue)
             (subst (λ (z : ℕ). Marked marks' z collapse 0 v) kj g low))

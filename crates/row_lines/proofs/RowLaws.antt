@@ -98,8 +98,8 @@ module _ (out₀ : List ℕ) (p : Lines) (line₀ : Line) (s : RenderOptions) (c
 
   module _ (out ats : List ℕ) (line : Line) (k : ℕ) (w : KeptLaid out ats line k) where
     -- Room for an edge.
-    pub edge-room : p.at < 2 ^ 61 → Within line 16
-    edge-room b =
+    pub edge_room : p.at < 2 ^ 61 → Within line 16
+    edge_room b =
         record {
           base = w.begun.on;
           piece = w.begun.piece;
@@ -108,8 +108,8 @@ module _ (out₀ : List ℕ) (p : Lines) (line₀ : Line) (s : RenderOptions) (c
         }
 
     -- Room for a seat.
-    pub seat-room : (q : Line) → p.at < 2 ^ 61 → LineGrown line q 16 → Within q seat_most
-    seat-room q b g =
+    pub seat_room : (q : Line) → p.at < 2 ^ 61 → LineGrown line q 16 → Within q seat_most
+    seat_room q b g =
         record {
           base = omega (arith, g.base, g.on, w.begun.on);
           piece = g.piece;
@@ -165,32 +165,32 @@ module _ (out₀ : List ℕ) (p : Lines) (line₀ : Line) (s : RenderOptions) (c
         kept : (j : ℕ) → (j ≡ k → ⊥) → get_or (set ats k r.next) j 0 ≡ get_or ats j 0
         kept j d = get_or-set_other ats k j r.next 0 d
 
-    kept-grows : (st : List ℕ) (l₀ : List Piece) (cs : List Column) (t : LaidTo out ats line k st l₀ cs) (ds : List Column)
+    kept_grows : (st : List ℕ) (l₀ : List Piece) (cs : List Column) (t : LaidTo out ats line k st l₀ cs) (ds : List Column)
         → size_of t.pieces ≤ size_of (column_line s l₀ (cs ++ ds))
-    kept-grows st l₀ cs t ds = omega (arith, grow_columns s k t.pieces (drop k cs ++ ds), ap size_of (t.goes ds))
+    kept_grows st l₀ cs t ds = omega (arith, grow_columns s k t.pieces (drop k cs ++ ds), ap size_of (t.goes ds))
 
     -- The line is too long.
-    pub kept-long : is_long line ≡ true → LaysKept out₀ line₀ s cells sheet ats₀ ends widths tos hungs collapse n out ats line
-    kept-long e st l₀ on cs c total fine =
+    pub kept_long : is_long line ≡ true → LaysKept out₀ line₀ s cells sheet ats₀ ends widths tos hungs collapse n out ats line
+    kept_long e st l₀ on cs c total fine =
         let t = w.left st l₀ on cs c total fine in
         record {
           pieces = t.pieces;
           held = t.held;
-          grows = kept-grows st l₀ cs t;
+          grows = kept_grows st l₀ cs t;
           whole = λ x. absurd (let z : ◌≡◌ {A = ℕ} 0 1 = cc in omega arith);
           moved = λ x. absurd (let z : ◌≡◌ {A = ℕ} 0 1 = cc in omega arith);
         }
 
     -- All seats.
-    pub kept-end : n ≤ k → LaysKept out₀ line₀ s cells sheet ats₀ ends widths tos hungs collapse n out ats line
-    kept-end h st l₀ on cs c total fine =
+    pub kept_end : n ≤ k → LaysKept out₀ line₀ s cells sheet ats₀ ends widths tos hungs collapse n out ats line
+    kept_end h st l₀ on cs c total fine =
         let t = w.left st l₀ on cs c total fine in
         let e : k ≡ n = omega (arith, w.few) in
         let no_more : drop k cs ≡ [] = drop_of_length-le cs {i = k} (omega (arith, c.count)) in
         record {
           pieces = t.pieces;
           held = t.held;
-          grows = kept-grows st l₀ cs t;
+          grows = kept_grows st l₀ cs t;
           whole = λ x ds. subst (λ (i : ℕ). columns_from s i t.pieces ds ≡ column_line s l₀ (cs ++ ds)) e
               (sym (ap (λ (z : List Column). columns_from s k t.pieces (z ++ ds)) no_more) ∙ t.goes ds);
           moved = λ x.

@@ -299,10 +299,10 @@ module _ (out out' : List ℕ) (p : Line) (r : Added) (s : RenderOptions) (bytes
 
   module _ (letter start next : ℕ) (h : at < end) (e : field_at at (drop at bytes) ≡ At letter start next) where
     -- The last border is left, which was taken off.
-    pub seat-pattern : leaves_pattern collapse letter next end ≡ true → r.next ≡ at → AddsPattern out p s letter (part start next bytes) to out' r.line
+    pub seat_pattern : leaves_pattern collapse letter next end ≡ true → r.next ≡ at → AddsPattern out p s letter (part start next bytes) to out' r.line
         → AddsSeat out p s bytes at end w to collapse out' r
     unfolding next_column
-    seat-pattern off n f c is =
+    seat_pattern off n f c is =
         let (co, ne, d) = taken_off collapse letter next end off in
         let t = first_line bytes at end letter start next is.ms h e is.lines_at in
         let (a, segs, hs, one) = border_of_lem t.one (line_border letter (part start next bytes) t.one t.reads d) in
@@ -322,10 +322,10 @@ module _ (out out' : List ℕ) (p : Line) (r : Added) (s : RenderOptions) (bytes
         }
 
     -- a line is left
-    seat-line : leaves_pattern collapse letter next end ≡ false → r.next ≡ next → AddsLine out p s letter (part start next bytes) to out' r.line
+    seat_line : leaves_pattern collapse letter next end ≡ false → r.next ≡ next → AddsLine out p s letter (part start next bytes) to out' r.line
         → AddsSeat out p s bytes at end w to collapse out' r
     unfolding next_column
-    seat-line on n f c is =
+    seat_line on n f c is =
         let t = first_line bytes at end letter start next is.ms h e is.lines_at in
         let ok = readable_first t.one is.ms t.more t.are is.readable in
         let x = first_of_lem collapse t.one is.ms t.more c t.are (λ co none. line_text letter (part start next bytes) t.one t.reads (stays_on collapse letter next end on co (t.ends none))) is.are in
@@ -348,15 +348,15 @@ module _ (out out' : List ℕ) (p : Line) (r : Added) (s : RenderOptions) (bytes
         }
 
     -- A text is left.
-    pub seat-text : letter ≡ 0x4C → r.next ≡ next → AddsCellText out p s (part start next bytes) to out' r.line
+    pub seat_text : letter ≡ 0x4C → r.next ≡ next → AddsCellText out p s (part start next bytes) to out' r.line
         → AddsSeat out p s bytes at end w to collapse out' r
-    seat-text el n f =
-        seat-line (text_stays collapse letter next end el) n (text_line out out' p r.line s letter (part start next bytes) to el f)
+    seat_text el n f =
+        seat_line (text_stays collapse letter next end el) n (text_line out out' p r.line s letter (part start next bytes) to el f)
 
     -- A border is left.
-    pub seat-border : (letter ≡ 0x4C → ⊥) → leaves_pattern collapse letter next end ≡ false → r.next ≡ next
+    pub seat_border : (letter ≡ 0x4C → ⊥) → leaves_pattern collapse letter next end ≡ false → r.next ≡ next
         → AddsBorder out p s letter (part start next bytes) to out' r.line → AddsSeat out p s bytes at end w to collapse out' r
-    seat-border d on n f = seat-line on n (border_line out out' p r.line s letter (part start next bytes) to d f)
+    seat_border d on n f = seat_line on n (border_line out out' p r.line s letter (part start next bytes) to d f)
 
   -- Lines are fields.
   pub seat_broken : at < end → field_at at (drop at bytes) ≡ Broken → AddsSeat out p s bytes at end w to collapse out' r

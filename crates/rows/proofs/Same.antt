@@ -85,13 +85,13 @@ same_holed l (a ∷ x ∷ []) e h = tt
 same_holed l (a ∷ x ∷ o ∷ rest) e h =
     let n = x * 256 + o in
     by_if (OnSome (Same line_bytes (whole l (a ∷ x ∷ o ∷ rest)))) (leb n (length rest))
-    (λ k. rest-again n rest (holed a (take n rest) (read_holes (raw_holes (drop n rest)))) (same_held l a x o (take n rest) (drop n rest) (read_holes (raw_holes (drop n rest))) e h.1.1.0
+    (λ k. rest_again n rest (holed a (take n rest) (read_holes (raw_holes (drop n rest)))) (same_held l a x o (take n rest) (drop n rest) (read_holes (raw_holes (drop n rest))) e h.1.1.0
     (sym (length-take-le n rest (leb-true n (length rest) k))) (holes_same (drop n rest) (bytes_drop n rest h.1.1.1))))
     (λ _. tt)
   where
-    rest-again : (n : ℕ) (rest : List ℕ) (r : Option RenderLine) → OnSome (Same line_bytes (whole l (a ∷ x ∷ o ∷ take n rest ++ drop n rest))) r
+    rest_again : (n : ℕ) (rest : List ℕ) (r : Option RenderLine) → OnSome (Same line_bytes (whole l (a ∷ x ∷ o ∷ take n rest ++ drop n rest))) r
         → OnSome (Same line_bytes (whole l (a ∷ x ∷ o ∷ rest))) r
-    rest-again n rest r g = subst (λ (b : List ℕ). OnSome (Same line_bytes (whole l (a ∷ x ∷ o ∷ b))) r) (take-append-drop n rest) g
+    rest_again n rest r g = subst (λ (b : List ℕ). OnSome (Same line_bytes (whole l (a ∷ x ∷ o ∷ b))) r) (take-append-drop n rest) g
 
 same_border : (l : ℕ) (t : List ℕ) → l ≡ 0x42 → OnSome (Same line_bytes (whole l t)) (read_border t)
 same_border l [] e = tt

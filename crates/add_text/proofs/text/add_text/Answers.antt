@@ -4,7 +4,7 @@ use native.Mathlib.Omega.{arith}
 use borrow.Author.Rules.{rules}
 use lib.ListN.{length}
 use Rattle.hard_wrap.proofs.Walks.{part_len}
-use Rattle.add_text.proofs.Walking.{lent_same, lent_word, Walking, walking_starts, walking_past, char-inside, char-some, char_is, char-ready, walking_on, walking-narrow, walking_ends}
+use Rattle.add_text.proofs.Walking.{lent_same, lent_word, Walking, walking_starts, walking_past, char_inside, char_some, char_is, char_ready, walking_on, walking_narrow, walking_ends}
 use Rattle.add_text.proofs.text.add_text.Goals as goal
 
 -- a length that is as before, which was as at the start
@@ -28,7 +28,7 @@ pub overflow_add-end : goal.overflow_add-end
 overflow_add-end c =
     let i = walking_past c.loop-code.invariant c.add_plain-past.result _ _ c.add_plain-past.ensures.adds_plain c.add_plain-past.ensures.len_in_bounds.0 c.add_plain-past.ensures.len_in_bounds.1 (search rules) (search rules) in
     let e = sym c.decode-d.ensures ∙ c.in-Char.is in
-    omega (arith, char-inside i _ _ e, c.requires.run_small.1)
+    omega (arith, char_inside i _ _ e, c.requires.run_small.1)
 
 pub slice_bounds-part-count : goal.slice_bounds-part-count
 slice_bounds-part-count c =
@@ -38,20 +38,20 @@ pub slice_bounds-part-end : goal.slice_bounds-part-end
 slice_bounds-part-end c =
     let i = walking_past c.loop-code.invariant c.add_plain-past.result _ _ c.add_plain-past.ensures.adds_plain c.add_plain-past.ensures.len_in_bounds.0 c.add_plain-past.ensures.len_in_bounds.1 (search rules) (search rules) in
     let e = sym c.decode-d.ensures ∙ c.in-Char.is in
-    let h = char-inside i _ _ e in
+    let h = char_inside i _ _ e in
     search rules
 
 pub add_char-done-requires : goal.add_char-done-requires
 add_char-done-requires c =
     let i = walking_past c.loop-code.invariant c.add_plain-past.result _ _ c.add_plain-past.ensures.adds_plain c.add_plain-past.ensures.len_in_bounds.0 c.add_plain-past.ensures.len_in_bounds.1 (search rules) (search rules) in
     let e = sym c.decode-d.ensures ∙ c.in-Char.is in
-    record { ready = (char-ready i _ _ e c.requires.run_small.1, lent_same c.requires.counts_within_units.1 i.lb_same i.lt_same i.wb_same i.wt_same); char_is = (char_is i _ _ e, c.requires.run_small.0) }
+    record { ready = (char_ready i _ _ e c.requires.run_small.1, lent_same c.requires.counts_within_units.1 i.lb_same i.lt_same i.wb_same i.wt_same); char_is = (char_is i _ _ e, c.requires.run_small.0) }
 
 pub loop-code-smaller : goal.loop-code-smaller
 loop-code-smaller c =
     let i = walking_past c.loop-code.invariant c.add_plain-past.result _ _ c.add_plain-past.ensures.adds_plain c.add_plain-past.ensures.len_in_bounds.0 c.add_plain-past.ensures.len_in_bounds.1 (search rules) (search rules) in
     let e = sym c.decode-d.ensures ∙ c.in-Char.is in
-    omega (arith, char-inside i _ _ e, char-some i _ _ e, c.loop-code.invariant.inside)
+    omega (arith, char_inside i _ _ e, char_some i _ _ e, c.loop-code.invariant.inside)
 
 pub loop-code-preserved : goal.loop-code-preserved
 loop-code-preserved c =
@@ -88,7 +88,7 @@ pub returns-in-Narrow : goal.returns-in-Narrow
 returns-in-Narrow c =
     let i = walking_past c.loop-code.invariant c.add_plain-past.result _ _ c.add_plain-past.ensures.adds_plain c.add_plain-past.ensures.len_in_bounds.0 c.add_plain-past.ensures.len_in_bounds.1 (search rules) (search rules) in
     let e = sym c.decode-d.ensures ∙ c.in-Char.is in
-    record { text_small = tt; adds_text = walking-narrow i _ _ e c.add_char-done.result _ _ _ _ _ c.add_char-done.ensures.adds_char c.in-Narrow.is }
+    record { text_small = tt; adds_text = walking_narrow i _ _ e c.add_char-done.result _ _ _ _ _ c.add_char-done.ensures.adds_char c.in-Narrow.is }
 
 pub returns-in-Bad : goal.returns-in-Bad
 returns-in-Bad c =

@@ -7,7 +7,7 @@ use native.Mathlib.Omega.{arith}
 use borrow.Author.Rules.{rules}
 use lib.ListN.{length}
 use Rattle.hard_wrap.proofs.Walks.{part_len}
-use Rattle.add_text.proofs.Walking.{lent_same, lent_word, Walking, walking_starts, walking_past, char-inside, char-some, char_is, char-ready, walking_on, walking-narrow, walking_ends}
+use Rattle.add_text.proofs.Walking.{lent_same, lent_word, Walking, walking_starts, walking_past, char_inside, char_some, char_is, char_ready, walking_on, walking_narrow, walking_ends}
 use Rattle.add_text.proofs.text.add_text.Given as goal
 
 abbrev pub invariant-loop-code : goal.invariant-loop-code

@@ -2,7 +2,7 @@
 -- Assumes nothing.
 use mathlib.Core.Path.{refl, sym}
 use borrow.Author.Rules.{rules}
-use Rattle.append_columns.proofs.BelowLaws.{part_size, part_few, holed_past, holed-drawn, holed-field}
+use Rattle.append_columns.proofs.BelowLaws.{part_size, part_few, holed_past, holed_drawn, holed_field}
 use Rattle.append_columns.proofs.below.add_holed.Goals as goal
 
 pub returns-then-border-len : goal.returns-then-border-len
@@ -19,7 +19,7 @@ add_drawn-requires c =
 
 pub returns-then-options : goal.returns-then-options
 returns-then-options c =
-    record { one_line_more = (c.add_drawn.ensures.one_line_more, c.cut_holes.ensures.border_len_unchanged.0); adds_holed = holed-drawn c.args.out.now c.args.lines c.args.options c.args.border.now c.args.len c.args.cells.now c.args.sheet.now c.args.first c.args.collapse c.args.height c.requires.1 _ _ _ _ c.if-border-len.false c.cut_holes.ensures.border_len_unchanged.0 _ (search rules) c.cut_holes.ensures.cuts_holes c.if-options.true c.add_drawn.ensures.draws_holed }
+    record { one_line_more = (c.add_drawn.ensures.one_line_more, c.cut_holes.ensures.border_len_unchanged.0); adds_holed = holed_drawn c.args.out.now c.args.lines c.args.options c.args.border.now c.args.len c.args.cells.now c.args.sheet.now c.args.first c.args.collapse c.args.height c.requires.1 _ _ _ _ c.if-border-len.false c.cut_holes.ensures.border_len_unchanged.0 _ (search rules) c.cut_holes.ensures.cuts_holes c.if-options.true c.add_drawn.ensures.draws_holed }
 
 pub slice_bounds-put_holed-end-2 : goal.slice_bounds-put_holed-end-2
 slice_bounds-put_holed-end-2 c =
@@ -31,4 +31,4 @@ put_holed-requires c =
 
 pub returns : goal.returns
 returns c =
-    record { one_line_more = (c.put_holed.ensures.one_line_more, c.cut_holes.ensures.border_len_unchanged.0); adds_holed = holed-field c.args.out.now c.args.lines c.args.options c.args.border.now c.args.len c.args.cells.now c.args.sheet.now c.args.first c.args.collapse c.args.height c.requires.1 _ _ _ _ c.if-border-len.false c.cut_holes.ensures.border_len_unchanged.0 _ (search rules) c.cut_holes.ensures.cuts_holes c.if-options.false c.put_holed.ensures.puts_holed }
+    record { one_line_more = (c.put_holed.ensures.one_line_more, c.cut_holes.ensures.border_len_unchanged.0); adds_holed = holed_field c.args.out.now c.args.lines c.args.options c.args.border.now c.args.len c.args.cells.now c.args.sheet.now c.args.first c.args.collapse c.args.height c.requires.1 _ _ _ _ c.if-border-len.false c.cut_holes.ensures.border_len_unchanged.0 _ (search rules) c.cut_holes.ensures.cuts_holes c.if-options.false c.put_holed.ensures.puts_holed }

@@ -4,7 +4,7 @@ use mathlib.Core.Path.{◌≡◌, refl, ◌∙◌}
 use Prim.Native.Nat.{◌≤◌}
 use borrow.Author.Rules.{rules}
 use Rattle.lines.specs.Items.{items}
-use Rattle.flush_word.proofs.Trimming.{trim, back_none, back-non-space, back-name, back-space, back_done}
+use Rattle.flush_word.proofs.Trimming.{trim, back_none, back_non_space, back_name, back_space, back_done}
 use Rattle.flush_word.proofs.trim.trimmed_end.Given as goal
 
 abbrev pub invariant-loop-k : goal.invariant-loop-k

@@ -3,7 +3,7 @@
 use mathlib.Core.Path.{refl}
 use borrow.Author.Tests.{not-true, not-false}
 use borrow.Author.Rules.{rules}
-use Rattle.flush_word.proofs.Wrapping.{flushes_nothing, flushes-fits, flushes_wraps}
+use Rattle.flush_word.proofs.Wrapping.{flushes_nothing, flushes_fits, flushes_wraps}
 use Rattle.flush_word.proofs.word.flush_word.Goals as goal
 
 pub returns-then-not-word : goal.returns-then-not-word
@@ -12,7 +12,7 @@ returns-then-not-word c =
 
 pub returns-then-blanks-word : goal.returns-then-blanks-word
 returns-then-blanks-word c =
-    record { stays_within_units = c.put_word.ensures.counts_within_units_2; flushes_word = λ d₀ base b o. flushes-fits c.args.frame c.args.st d₀ base b _ _ _ _ _ o _ _ _ (not-false _ c.if-not-word.false) c.if-blanks-word.true c.put_word.ensures.puts_word }
+    record { stays_within_units = c.put_word.ensures.counts_within_units_2; flushes_word = λ d₀ base b o. flushes_fits c.args.frame c.args.st d₀ base b _ _ _ _ _ o _ _ _ (not-false _ c.if-not-word.false) c.if-blanks-word.true c.put_word.ensures.puts_word }
 
 pub wrap_word-requires : goal.wrap_word-requires
 wrap_word-requires c =

@@ -5,7 +5,7 @@ use Prim.Native.Nat.{ℕ, ◌-◌, ◌≤◌}
 use borrow.Author.Rules.{rules}
 use lib.Dec.{eqb}
 use lib.ListN.{length, drop}
-use Rattle.flush_word.proofs.Trimming.{first_pre, starts_pre_lem, pre_end, pre-here, pre-on}
+use Rattle.flush_word.proofs.Trimming.{first_pre, starts_pre_lem, pre_end, pre_here, pre_on}
 use Rattle.flush_word.proofs.word.starts_pre.Given as goal
 
 abbrev pub invariant-loop-i : goal.invariant-loop-i

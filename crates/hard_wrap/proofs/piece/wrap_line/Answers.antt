@@ -5,7 +5,7 @@ use Prim.Native.Nat.{◌+◌, ◌<◌}
 use native.Mathlib.Omega.{arith}
 use borrow.Author.Rules.{rules}
 use lib.Seq.{length-take-le}
-use Rattle.hard_wrap.proofs.Turns.{step_on, step-over, step-stuck}
+use Rattle.hard_wrap.proofs.Turns.{step_on, step_over, step_stuck}
 use Rattle.hard_wrap.proofs.piece.wrap_line.Goals as goal
 
 pub slice_bounds-close_with-end : goal.slice_bounds-close_with-end
@@ -28,13 +28,13 @@ returns-then-frame c =
         forward = omega (arith, c.glyph-g.ensures);
         small = omega (arith, c.glyph-g.ensures);
       }; wraps_line = λ d₀ base b t cs o ta ann sc e w s.
-          step-over c.args.frame c.args.st _ c.args.rest.now c.args.lb.now c.args.lt.now c.args.out.now _ _ _ d₀ base c.args.tag b t cs o ta ann sc e w c.requires.cols_le_width.0
+          step_over c.args.frame c.args.st _ c.args.rest.now c.args.lb.now c.args.lt.now c.args.out.now _ _ _ d₀ base c.args.tag b t cs o ta ann sc e w c.requires.cols_le_width.0
           c.args.split c.args.used s c.if-split-eq0.true c.if-st-eq0.true c.glyph-g.result.len c.glyph-g.result.cols c.glyph-g.ensures.shows c.if-frame.true c.close_with-next.ensures.closes_with }
 
 pub returns-then-st-eq0 : goal.returns-then-st-eq0
 returns-then-st-eq0 c =
     record { forward = tt; wraps_line = λ d₀ base b t cs o ta ann sc e w s.
-          step-stuck c.args.frame c.args.st c.args.st c.args.rest.now c.args.lb.now c.args.lt.now c.args.out.now
+          step_stuck c.args.frame c.args.st c.args.st c.args.rest.now c.args.lb.now c.args.lt.now c.args.out.now
           c.args.lb.now c.args.lt.now c.args.out.now d₀ base c.args.tag b t cs o ta ann sc e w c.requires.cols_le_width.0
           c.args.split c.args.used s c.if-split-eq0.true c.if-st-eq0.true c.if-frame.false }
 

@@ -13,7 +13,7 @@ use Rattle.characters.proofs.RoundTrip.{Scalars}
 use Rattle.hard_wrap.specs.Hold.{setup, Room, Moved}
 use Rattle.hard_wrap.specs.Walk.{Going, Split}
 use Rattle.hard_wrap.proofs.Piecewise.{Walked, forward_on, piece_start, piece_turn, piece_stuck, piece_rest, piece_end}
-use Rattle.hard_wrap.proofs.Walks.{part_len, going_start, going_run, going_on, going-stop, going_end, split_same}
+use Rattle.hard_wrap.proofs.Walks.{part_len, going_start, going_run, going_on, going_stop, going_end, split_same}
 use Rattle.fields.proofs.Texts.{rest as part-rest}
 use Rattle.hard_wrap.proofs.piece.wrap_piece.Goals as goal
 
@@ -162,7 +162,7 @@ loop-bpos-preserved c =
     let p = past cs v e in
     ⊎_elim
     (λ y. split_same y.1 (going_end part cs i used l y.0.taken p).0)
-    (λ y. split_same y.6 (going-stop part cs i used y.2.result.len y.2.result.cols v y.0.left y.2.ensures.1 l y.5.taken p))
+    (λ y. split_same y.6 (going_stop part cs i used y.2.result.len y.2.result.cols v y.0.left y.2.ensures.1 l y.5.taken p))
     c.if-idx-rest.branch in
     let fw = moved in
     let pl = part_len c.args.piece.now c.loop-bpos.bpos in
@@ -212,7 +212,7 @@ returns-in-Stuck c =
     let p = past cs v e in
     ⊎_elim
     (λ y. split_same y.1 (going_end part cs i used l y.0.taken p).0)
-    (λ y. split_same y.6 (going-stop part cs i used y.2.result.len y.2.result.cols v y.0.left y.2.ensures.1 l y.5.taken p))
+    (λ y. split_same y.6 (going_stop part cs i used y.2.result.len y.2.result.cols v y.0.left y.2.ensures.1 l y.5.taken p))
     c.if-idx-rest.branch in
     record { grows = tt; pieces = λ d₀ base b t cs o ta ann sc e.
           let g = c.loop-bpos.invariant.going d₀ base b t cs o ta ann sc e in

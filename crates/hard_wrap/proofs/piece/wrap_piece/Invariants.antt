@@ -16,7 +16,7 @@ use Rattle.characters.proofs.RoundTrip.{Scalars}
 use Rattle.hard_wrap.specs.Hold.{setup, Room, Moved}
 use Rattle.hard_wrap.specs.Walk.{Going, Split}
 use Rattle.hard_wrap.proofs.Piecewise.{Walked, forward_on, piece_start, piece_turn, piece_stuck, piece_rest, piece_end}
-use Rattle.hard_wrap.proofs.Walks.{part_len, going_start, going_run, going_on, going-stop, going_end, split_same}
+use Rattle.hard_wrap.proofs.Walks.{part_len, going_start, going_run, going_on, going_stop, going_end, split_same}
 use Rattle.fields.proofs.Texts.{rest as part-rest}
 use Rattle.hard_wrap.proofs.piece.wrap_piece.Given as goal
 

@@ -1,6 +1,6 @@
 use Rattle.holes.proofs.DrawLaws.{passed, begin_small, end_small}
 use Rattle.fields.proofs.Parts.{part_length}
-use Rattle.holes.proofs.DrawLaws.{Drawing, draw_start, draw-room, draw-piece-room, draw-on, draw-broken, draw-little, draw-last-room, draw-last-grown, draw-end, end-most}
+use Rattle.holes.proofs.DrawLaws.{Drawing, draw_start, draw_room, draw_piece_room, draw_on, draw_broken, draw_little, draw_last_room, draw_last_grown, draw_end, end_most}
 use Rattle.places.proofs.HoleLaws.{FoundHole, found_hole, told_hole}
 use native.Mathlib.Omega.{arith}
 use lib.ListN.{length}
@@ -27,16 +27,16 @@ slice_bounds-push_segments-end c =
 pub push_segments-drawn-requires : goal.push_segments-drawn-requires
 push_segments-drawn-requires c =
     let n = part_length c.args.segs c.args.holes c.args.content.now c.requires.segs_le_holes.1 in
-    let r = draw-room _ _ _ _ _ _ _ _ _ c.requires.segs_le_holes.0 c.requires.segs_le_holes.1 c.larger-end.ensures _ _ _ _ c.loop-place.invariant _ _ _ c.requires.within c.smaller.ensures c.larger-begin.ensures in (
+    let r = draw_room _ _ _ _ _ _ _ _ _ c.requires.segs_le_holes.0 c.requires.segs_le_holes.1 c.larger-end.ensures _ _ _ _ c.loop-place.invariant _ _ _ c.requires.within c.smaller.ensures c.larger-begin.ensures in (
       omega (arith, n, c.requires.segs_le_holes.1, c.requires.segs_le_holes.2),
-      begin_small _ _ _ _ _ r.0 (end-most c.args.out.now c.args.line c.args.annotation c.args.content.now _ _ _ c.args.texts _ c.requires.segs_le_holes.0 c.requires.segs_le_holes.1 c.larger-end.ensures) (passed _ _ _ c.loop-place.invariant.inside) c.requires.segs_le_holes.2 c.requires.segs_le_holes.3,
+      begin_small _ _ _ _ _ r.0 (end_most c.args.out.now c.args.line c.args.annotation c.args.content.now _ _ _ c.args.texts _ c.requires.segs_le_holes.0 c.requires.segs_le_holes.1 c.larger-end.ensures) (passed _ _ _ c.loop-place.invariant.inside) c.requires.segs_le_holes.2 c.requires.segs_le_holes.3,
       r.1,
     )
 
 pub push_piece-drawn-requires : goal.push_piece-drawn-requires
 push_piece-drawn-requires c =
     let found : FoundHole c.args.content.now c.loop-place.at c.in-At.place c.in-At.letter c.in-At.start c.in-At.next = found_hole _ _ _ _ _ _ _ c.hole_at-h.ensures.hole_in c.hole_at-h.ensures.raw_at c.in-At.is in
-    let r = found in record { le_start = (omega (arith, r.begins), r.order, r.inside, c.requires.segs_le_holes.2); within = draw-piece-room _ _ _ _ _ _ _ _ _ c.requires.segs_le_holes.0 c.requires.segs_le_holes.1 c.larger-end.ensures _ _ _ _ c.loop-place.invariant _ _ _ _ _ _ _ c.requires.within c.smaller.ensures c.larger-begin.ensures r c.push_segments-drawn.ensures.line_grown }
+    let r = found in record { le_start = (omega (arith, r.begins), r.order, r.inside, c.requires.segs_le_holes.2); within = draw_piece_room _ _ _ _ _ _ _ _ _ c.requires.segs_le_holes.0 c.requires.segs_le_holes.1 c.larger-end.ensures _ _ _ _ c.loop-place.invariant _ _ _ _ _ _ _ c.requires.within c.smaller.ensures c.larger-begin.ensures r c.push_segments-drawn.ensures.line_grown }
 
 pub slice_bounds-piece_cols-count : goal.slice_bounds-piece_cols-count
 slice_bounds-piece_cols-count c =
@@ -61,8 +61,8 @@ piece_cols-requires c =
 pub overflow_add-pos : goal.overflow_add-pos
 overflow_add-pos c =
     let found : FoundHole c.args.content.now c.loop-place.at c.in-At.place c.in-At.letter c.in-At.start c.in-At.next = found_hole _ _ _ _ _ _ _ c.hole_at-h.ensures.hole_in c.hole_at-h.ensures.raw_at c.in-At.is in
-    let r = draw-room _ _ _ _ _ _ _ _ _ c.requires.segs_le_holes.0 c.requires.segs_le_holes.1 c.larger-end.ensures _ _ _ _ c.loop-place.invariant _ _ _ c.requires.within c.smaller.ensures c.larger-begin.ensures in
-    let k = begin_small _ _ _ _ _ r.0 (end-most c.args.out.now c.args.line c.args.annotation c.args.content.now _ _ _ c.args.texts _ c.requires.segs_le_holes.0 c.requires.segs_le_holes.1 c.larger-end.ensures) (passed _ _ _ c.loop-place.invariant.inside) c.requires.segs_le_holes.2 c.requires.segs_le_holes.3 in
+    let r = draw_room _ _ _ _ _ _ _ _ _ c.requires.segs_le_holes.0 c.requires.segs_le_holes.1 c.larger-end.ensures _ _ _ _ c.loop-place.invariant _ _ _ c.requires.within c.smaller.ensures c.larger-begin.ensures in
+    let k = begin_small _ _ _ _ _ r.0 (end_most c.args.out.now c.args.line c.args.annotation c.args.content.now _ _ _ c.args.texts _ c.requires.segs_le_holes.0 c.requires.segs_le_holes.1 c.larger-end.ensures) (passed _ _ _ c.loop-place.invariant.inside) c.requires.segs_le_holes.2 c.requires.segs_le_holes.3 in
     let f = found in
     omega (arith, k, c.piece_cols.ensures.upper_bound, f.size, f.inside, c.requires.segs_le_holes.2)
 
@@ -74,7 +74,7 @@ loop-place-smaller c =
 pub loop-place-preserved : goal.loop-place-preserved
 loop-place-preserved c =
     let found : FoundHole c.args.content.now c.loop-place.at c.in-At.place c.in-At.letter c.in-At.start c.in-At.next = found_hole _ _ _ _ _ _ _ c.hole_at-h.ensures.hole_in c.hole_at-h.ensures.raw_at c.in-At.is in
-    draw-on _ _ _ _ _ _ _ _ _ c.requires.segs_le_holes.0 c.requires.segs_le_holes.1 c.larger-end.ensures _ _ _ _ c.loop-place.invariant _ _ _ _ _ _ _ _ _ _ _ c.smaller.ensures c.larger-begin.ensures (found) c.push_segments-drawn.ensures.line_grown c.push_segments-drawn.ensures.draws_part c.push_piece-drawn.ensures.line_grown c.push_piece-drawn.ensures.pushes_piece c.piece_cols.ensures.upper_bound c.piece_cols.ensures.counts_piece (search rules)
+    draw_on _ _ _ _ _ _ _ _ _ c.requires.segs_le_holes.0 c.requires.segs_le_holes.1 c.larger-end.ensures _ _ _ _ c.loop-place.invariant _ _ _ _ _ _ _ _ _ _ _ c.smaller.ensures c.larger-begin.ensures (found) c.push_segments-drawn.ensures.line_grown c.push_segments-drawn.ensures.draws_part c.push_piece-drawn.ensures.line_grown c.push_piece-drawn.ensures.pushes_piece c.piece_cols.ensures.upper_bound c.piece_cols.ensures.counts_piece (search rules)
 
 pub shape_of-out-in-Broken : goal.shape_of-out-in-Broken
 shape_of-out-in-Broken c =
@@ -82,7 +82,7 @@ shape_of-out-in-Broken c =
 
 pub returns-in-Broken : goal.returns-in-Broken
 returns-in-Broken c =
-    record { line_grown = draw-little _ _ _ _ _ _ _ _ _ c.requires.segs_le_holes.0 c.requires.segs_le_holes.1 c.larger-end.ensures _ _ _ _ c.loop-place.invariant; draws_holes = draw-broken _ _ _ _ _ _ _ _ _ c.requires.segs_le_holes.0 c.requires.segs_le_holes.1 c.larger-end.ensures _ _ _ _ c.loop-place.invariant (told_hole _ _ _ _ c.hole_at-h.ensures.raw_at c.in-Broken.is) }
+    record { line_grown = draw_little _ _ _ _ _ _ _ _ _ c.requires.segs_le_holes.0 c.requires.segs_le_holes.1 c.larger-end.ensures _ _ _ _ c.loop-place.invariant; draws_holes = draw_broken _ _ _ _ _ _ _ _ _ c.requires.segs_le_holes.0 c.requires.segs_le_holes.1 c.larger-end.ensures _ _ _ _ c.loop-place.invariant (told_hole _ _ _ _ c.hole_at-h.ensures.raw_at c.in-Broken.is) }
 
 pub slice_bounds-push_segments-count-in-End : goal.slice_bounds-push_segments-count-in-End
 slice_bounds-push_segments-count-in-End c =
@@ -101,10 +101,10 @@ push_segments-requires c =
     let n = part_length c.args.segs c.args.holes c.args.content.now c.requires.segs_le_holes.1 in
     (
       omega (arith, n, c.requires.segs_le_holes.1, c.requires.segs_le_holes.2),
-      end_small _ _ _ (end-most c.args.out.now c.args.line c.args.annotation c.args.content.now _ _ _ c.args.texts _ c.requires.segs_le_holes.0 c.requires.segs_le_holes.1 c.larger-end.ensures) c.requires.segs_le_holes.2 c.requires.segs_le_holes.3,
-      draw-last-room _ _ _ _ _ _ _ _ _ c.requires.segs_le_holes.0 c.requires.segs_le_holes.1 c.larger-end.ensures _ _ _ _ c.loop-place.invariant c.requires.within,
+      end_small _ _ _ (end_most c.args.out.now c.args.line c.args.annotation c.args.content.now _ _ _ c.args.texts _ c.requires.segs_le_holes.0 c.requires.segs_le_holes.1 c.larger-end.ensures) c.requires.segs_le_holes.2 c.requires.segs_le_holes.3,
+      draw_last_room _ _ _ _ _ _ _ _ _ c.requires.segs_le_holes.0 c.requires.segs_le_holes.1 c.larger-end.ensures _ _ _ _ c.loop-place.invariant c.requires.within,
     )
 
 pub returns-in-End : goal.returns-in-End
 returns-in-End c =
-    record { line_grown = draw-last-grown _ _ _ _ _ _ _ _ _ c.requires.segs_le_holes.0 c.requires.segs_le_holes.1 c.larger-end.ensures _ _ _ _ c.loop-place.invariant _ c.push_segments.ensures.line_grown; draws_holes = draw-end _ _ _ _ _ _ _ _ _ c.requires.segs_le_holes.0 c.requires.segs_le_holes.1 c.larger-end.ensures _ _ _ _ c.loop-place.invariant _ _ (told_hole _ _ _ _ c.hole_at-h.ensures.raw_at c.in-End.is) c.push_segments.ensures.draws_part }
+    record { line_grown = draw_last_grown _ _ _ _ _ _ _ _ _ c.requires.segs_le_holes.0 c.requires.segs_le_holes.1 c.larger-end.ensures _ _ _ _ c.loop-place.invariant _ c.push_segments.ensures.line_grown; draws_holes = draw_end _ _ _ _ _ _ _ _ _ c.requires.segs_le_holes.0 c.requires.segs_le_holes.1 c.larger-end.ensures _ _ _ _ c.loop-place.invariant _ _ (told_hole _ _ _ _ c.hole_at-h.ensures.raw_at c.in-End.is) c.push_segments.ensures.draws_part }

@@ -2,7 +2,7 @@
 -- Assumes nothing.
 use Rattle.holes.proofs.DrawLaws.{passed, begin_small, end_small}
 use Rattle.fields.proofs.Parts.{part_length}
-use Rattle.holes.proofs.DrawLaws.{Drawing, draw_start, draw-room, draw-piece-room, draw-on, draw-broken, draw-little, draw-last-room, draw-last-grown, draw-end, end-most}
+use Rattle.holes.proofs.DrawLaws.{Drawing, draw_start, draw_room, draw_piece_room, draw_on, draw_broken, draw_little, draw_last_room, draw_last_grown, draw_end, end_most}
 use Rattle.places.proofs.HoleLaws.{FoundHole, found_hole, told_hole}
 use native.Mathlib.Omega.{arith}
 use lib.ListN.{length}

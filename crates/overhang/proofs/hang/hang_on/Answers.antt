@@ -3,12 +3,12 @@ use native.Mathlib.Omega.{arith}
 use borrow.Author.Rules.{rules}
 use Rattle.slots.specs.Seats.{slots_measure, NextIn, FindsNext}
 use Rattle.extend_lines.proofs.Handing.{bytes_known}
-use Rattle.overhang.proofs.RowLaws.{Turns, turns-start, turns-on, turns-end, turns-far}
+use Rattle.overhang.proofs.RowLaws.{Turns, turns_start, turns_on, turns_end, turns_far}
 use Rattle.overhang.proofs.hang.hang_on.Goals as goal
 
 pub loop-next-init : goal.loop-next-init
 loop-next-init c =
-    turns-start _ _ _ _ _ _ _ _ _ (bytes_known c.args.cells.now (λ i. omega (arith, c.shared_slice_known-1.given i))) (bytes_known c.args.sheet.now (λ i. omega (arith, c.shared_slice_known-2-1.given i))) c.first_slots-ahead.ensures.slots_in c.first_slots-ahead.ensures.begins
+    turns_start _ _ _ _ _ _ _ _ _ (bytes_known c.args.cells.now (λ i. omega (arith, c.shared_slice_known-1.given i))) (bytes_known c.args.sheet.now (λ i. omega (arith, c.shared_slice_known-2-1.given i))) c.first_slots-ahead.ensures.slots_in c.first_slots-ahead.ensures.begins
 
 pub shape_of-out-then-next-gt11529215046068469760 : goal.shape_of-out-then-next-gt11529215046068469760
 shape_of-out-then-next-gt11529215046068469760 c =
@@ -16,7 +16,7 @@ shape_of-out-then-next-gt11529215046068469760 c =
 
 pub returns-then-next-gt11529215046068469760 : goal.returns-then-next-gt11529215046068469760
 returns-then-next-gt11529215046068469760 c =
-    record { count_value = c.loop-next.invariant.count; hangs_all = turns-far _ _ _ _ _ _ _ _ _ _ _ c.loop-next.invariant (bytes_known c.args.sheet.now (λ i. omega (arith, c.shared_slice_known-2-1.given i))) (omega (arith, c.«NOSTEP»well-formed.1.1.1.1.0.1)) c.if-next-gt11529215046068469760.true }
+    record { count_value = c.loop-next.invariant.count; hangs_all = turns_far _ _ _ _ _ _ _ _ _ _ _ c.loop-next.invariant (bytes_known c.args.sheet.now (λ i. omega (arith, c.shared_slice_known-2-1.given i))) (omega (arith, c.«NOSTEP»well-formed.1.1.1.1.0.1)) c.if-next-gt11529215046068469760.true }
 
 pub next_slot-slot-requires : goal.next_slot-slot-requires
 next_slot-slot-requires c =
@@ -32,7 +32,7 @@ loop-next-smaller c =
 
 pub loop-next-preserved : goal.loop-next-preserved
 loop-next-preserved c =
-    turns-on _ _ _ _ _ _ _ _ _ _ _ c.loop-next.invariant _ _ _ _ (subst (NextIn _ _ _) c.in-Is.is c.next_slot-slot.ensures.next_in).rest_in (search rules) c.hang_seat-next.ensures.hanging_in (subst (FindsNext _ _ _) c.in-Is.is c.next_slot-slot.ensures.finds_next) c.hang_seat-next.ensures.hangs_seat
+    turns_on _ _ _ _ _ _ _ _ _ _ _ c.loop-next.invariant _ _ _ _ (subst (NextIn _ _ _) c.in-Is.is c.next_slot-slot.ensures.next_in).rest_in (search rules) c.hang_seat-next.ensures.hanging_in (subst (FindsNext _ _ _) c.in-Is.is c.next_slot-slot.ensures.finds_next) c.hang_seat-next.ensures.hangs_seat
 
 pub shape_of-out-in-NoMore : goal.shape_of-out-in-NoMore
 shape_of-out-in-NoMore c =
@@ -40,4 +40,4 @@ shape_of-out-in-NoMore c =
 
 pub returns-in-NoMore : goal.returns-in-NoMore
 returns-in-NoMore c =
-    record { count_value = c.loop-next.invariant.count; hangs_all = turns-end _ _ _ _ _ _ _ _ _ _ _ c.loop-next.invariant _ (subst (FindsNext _ _ _) c.in-NoMore.is c.next_slot-slot.ensures.finds_next) }
+    record { count_value = c.loop-next.invariant.count; hangs_all = turns_end _ _ _ _ _ _ _ _ _ _ _ c.loop-next.invariant _ (subst (FindsNext _ _ _) c.in-NoMore.is c.next_slot-slot.ensures.finds_next) }

@@ -5,7 +5,7 @@ use native.Mathlib.Omega.{arith}
 use borrow.Author.Rules.{rules}
 use Rattle.slots.specs.Seats.{slots_measure, NextIn, FindsNext}
 use Rattle.extend_lines.proofs.Handing.{bytes_known}
-use Rattle.overhang.proofs.RowLaws.{Turns, turns-start, turns-on, turns-end, turns-far}
+use Rattle.overhang.proofs.RowLaws.{Turns, turns_start, turns_on, turns_end, turns_far}
 use Rattle.overhang.proofs.hang.hang_on.Given as goal
 
 abbrev pub invariant-loop-next : goal.invariant-loop-next

@@ -3,7 +3,7 @@
 use mathlib.Core.Path.{sym, ◌∙◌}
 use native.Mathlib.Omega.{arith}
 use Rattle.extend_lines.proofs.Handing.{bytes_known}
-use Rattle.row_lines.proofs.FullLaws.{names_counted, full-added, full-counted}
+use Rattle.row_lines.proofs.FullLaws.{names_counted, full_added, full_counted}
 use Rattle.row_lines.proofs.RowLaws.{begun_more}
 use borrow.Author.Rules.{rules}
 use Rattle.row_lines.proofs.full.add_full_line.Goals as goal
@@ -37,7 +37,7 @@ too_long-requires-then-is_long c =
 
 pub returns-then-is_long : goal.returns-then-is_long
 returns-then-is_long c =
-    record { one_line_more = c.too_long-then-is_long.ensures.0; adds_full_line = full-counted c.args.out.now c.args.lines c.args.names.now c.args.options c.args.cells.now c.args.sheet.now c.args.at.now c.args.end.now c.args.width.now c.args.to.now c.args.hung.now
+    record { one_line_more = c.too_long-then-is_long.ensures.0; adds_full_line = full_counted c.args.out.now c.args.lines c.args.names.now c.args.options c.args.cells.now c.args.sheet.now c.args.at.now c.args.end.now c.args.width.now c.args.to.now c.args.hung.now
           c.args.collapse c.args.n c.args.more c.args.rest c.args.i c.args.marks.now _ _ _ _ _ _ _ c.begin_line-begun.ensures.begins_line c.lay_full-line.ensures.lays_full (search rules)
           (sym c.is_long.ensures ∙ c.if-is_long.true) c.too_long-then-is_long.ensures.0.count c.too_long-then-is_long.ensures.1 }
 
@@ -47,6 +47,6 @@ add_text_line-requires c =
 
 pub returns : goal.returns
 returns c =
-    record { one_line_more = c.add_text_line.ensures.one_line_more; adds_full_line = full-added c.args.out.now c.args.lines c.args.names.now c.args.options c.args.cells.now c.args.sheet.now c.args.at.now c.args.end.now c.args.width.now c.args.to.now c.args.hung.now
+    record { one_line_more = c.add_text_line.ensures.one_line_more; adds_full_line = full_added c.args.out.now c.args.lines c.args.names.now c.args.options c.args.cells.now c.args.sheet.now c.args.at.now c.args.end.now c.args.width.now c.args.to.now c.args.hung.now
           c.args.collapse c.args.n c.args.more c.args.rest c.args.i c.args.marks.now _ _ _ _ _ _ _ c.begin_line-begun.ensures.begins_line c.lay_full-line.ensures.lays_full (search rules) _
           (sym c.is_long.ensures ∙ c.if-is_long.false) c.add_text_line.ensures.adds_text_line }

@@ -3,7 +3,7 @@
 use mathlib.Core.Path.{refl}
 use Prim.Native.Nat.{◌-◌}
 use native.Mathlib.Omega.{arith}
-use Rattle.row_lines.proofs.FullLaws.{FullLaid, fulls_start, fulls-on, fulls-long, fulls-end}
+use Rattle.row_lines.proofs.FullLaws.{FullLaid, fulls_start, fulls_on, fulls_long, fulls_end}
 use borrow.Author.Rules.{rules}
 use Rattle.row_lines.proofs.full.add_full_lines.Given as goal
 

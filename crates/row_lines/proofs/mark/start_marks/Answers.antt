@@ -1,5 +1,5 @@
 use mathlib.Core.Path.{subst}
-use Rattle.row_lines.proofs.RestLaws.{MarksSet, marks_start, marks-end, marks-on}
+use Rattle.row_lines.proofs.RestLaws.{MarksSet, marks_start, marks_end, marks_on}
 use Rattle.slots.specs.Seats.{slots_measure, NextIn, FindsNext}
 use borrow.Author.Rules.{rules}
 use Rattle.row_lines.proofs.mark.start_marks.Goals as goal
@@ -22,8 +22,8 @@ loop-seat-smaller c =
 
 pub loop-seat-preserved : goal.loop-seat-preserved
 loop-seat-preserved c =
-    marks-on _ _ _ c.args.collapse _ _ _ _ c.loop-seat.invariant _ _ _ _ (subst (NextIn _ _ _) c.in-Is.is c.next_slot-next.ensures.next_in) (subst (FindsNext _ _ _) c.in-Is.is c.next_slot-next.ensures.finds_next) c.start_mark-k.ensures.some_set c.start_mark-k.ensures.starts_mark
+    marks_on _ _ _ c.args.collapse _ _ _ _ c.loop-seat.invariant _ _ _ _ (subst (NextIn _ _ _) c.in-Is.is c.next_slot-next.ensures.next_in) (subst (FindsNext _ _ _) c.in-Is.is c.next_slot-next.ensures.finds_next) c.start_mark-k.ensures.some_set c.start_mark-k.ensures.starts_mark
 
 pub returns-in-NoMore : goal.returns-in-NoMore
 returns-in-NoMore c =
-    marks-end _ _ _ c.args.collapse _ _ _ _ c.loop-seat.invariant _ (subst (FindsNext _ _ _) c.in-NoMore.is c.next_slot-next.ensures.finds_next)
+    marks_end _ _ _ c.args.collapse _ _ _ _ c.loop-seat.invariant _ (subst (FindsNext _ _ _) c.in-NoMore.is c.next_slot-next.ensures.finds_next)

@@ -1,6 +1,6 @@
 -- `place::next_place` meets its contract: the place stays where no line is left, and else goes behind the line. Assumes nothing.
 use mathlib.Core.Path.{sym, ◌∙◌}
-use Rattle.row_lines.proofs.PlaceLaws.{moves_none, moves-off, moves-line, moves_broken, moves_end}
+use Rattle.row_lines.proofs.PlaceLaws.{moves_none, moves_off, moves_line, moves_broken, moves_end}
 use borrow.Author.Rules.{rules}
 use Rattle.row_lines.proofs.place.next_place.Goals as goal
 
@@ -10,11 +10,11 @@ returns-then-end-at c =
 
 pub returns-then-leaves_pattern : goal.returns-then-leaves_pattern
 returns-then-leaves_pattern c =
-    moves-off _ _ _ c.args.collapse _ _ _ c.if-end-at.false (sym c.field_at-f.ensures.value ∙ c.in-At.is) (sym c.leaves_pattern.ensures ∙ c.if-leaves_pattern.true)
+    moves_off _ _ _ c.args.collapse _ _ _ c.if-end-at.false (sym c.field_at-f.ensures.value ∙ c.in-At.is) (sym c.leaves_pattern.ensures ∙ c.if-leaves_pattern.true)
 
 pub returns-else-leaves_pattern : goal.returns-else-leaves_pattern
 returns-else-leaves_pattern c =
-    moves-line _ _ _ c.args.collapse _ _ _ c.if-end-at.false (sym c.field_at-f.ensures.value ∙ c.in-At.is) (sym c.leaves_pattern.ensures ∙ c.if-leaves_pattern.false)
+    moves_line _ _ _ c.args.collapse _ _ _ c.if-end-at.false (sym c.field_at-f.ensures.value ∙ c.in-At.is) (sym c.leaves_pattern.ensures ∙ c.if-leaves_pattern.false)
 
 pub returns-in-Broken : goal.returns-in-Broken
 returns-in-Broken c =

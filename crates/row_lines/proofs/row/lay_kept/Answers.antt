@@ -1,7 +1,7 @@
 use mathlib.Core.Path.{sym, ◌∙◌}
 use Prim.Native.Nat.{◌-◌}
 use native.Mathlib.Omega.{arith}
-use Rattle.row_lines.proofs.RowLaws.{KeptLaid, kept_start, edge-room, seat-room, kept_on, kept-long, kept-end, start_of, start_begun, start_below, begun_from}
+use Rattle.row_lines.proofs.RowLaws.{KeptLaid, kept_start, edge_room, seat_room, kept_on, kept_long, kept_end, start_of, start_begun, start_below, begun_from}
 use borrow.Author.Rules.{rules}
 use Rattle.row_lines.proofs.row.lay_kept.Goals as goal
 
@@ -15,15 +15,15 @@ is_long-requires c =
 
 pub returns-then-is_long : goal.returns-then-is_long
 returns-then-is_long c =
-    record { line_begun = begun_from c.args.lines _ _ c.requires.1 c.loop-k.invariant.begun; lays_kept = kept-long _ _ _ c.args.options _ _ _ _ _ _ _ _ _ _ _ _ _ c.loop-k.invariant (sym c.is_long.ensures ∙ c.if-is_long.true) }
+    record { line_begun = begun_from c.args.lines _ _ c.requires.1 c.loop-k.invariant.begun; lays_kept = kept_long _ _ _ c.args.options _ _ _ _ _ _ _ _ _ _ _ _ _ c.loop-k.invariant (sym c.is_long.ensures ∙ c.if-is_long.true) }
 
 pub open_seat-edged-requires : goal.open_seat-edged-requires
 open_seat-edged-requires c =
-    edge-room _ _ _ c.args.options _ _ _ _ _ _ _ _ _ _ _ _ _ c.loop-k.invariant (start_below c.args.lines _ c.requires.1 c.requires.0)
+    edge_room _ _ _ c.args.options _ _ _ _ _ _ _ _ _ _ _ _ _ c.loop-k.invariant (start_below c.args.lines _ c.requires.1 c.requires.0)
 
 pub add_kept-a-requires : goal.add_kept-a-requires
 add_kept-a-requires c =
-    (seat-room _ _ _ c.args.options _ _ _ _ _ _ _ _ _ _ _ _ _ c.loop-k.invariant _ (start_below c.args.lines _ c.requires.1 c.requires.0) c.open_seat-edged.ensures.line_grown, (c.requires.4 _ c.loop-k-test.true).0, (c.requires.4 _ c.loop-k-test.true).1)
+    (seat_room _ _ _ c.args.options _ _ _ _ _ _ _ _ _ _ _ _ _ c.loop-k.invariant _ (start_below c.args.lines _ c.requires.1 c.requires.0) c.open_seat-edged.ensures.line_grown, (c.requires.4 _ c.loop-k-test.true).0, (c.requires.4 _ c.loop-k-test.true).1)
 
 pub offset_bounds-at-k-in-loop-k : goal.offset_bounds-at-k-in-loop-k
 offset_bounds-at-k-in-loop-k c =
@@ -43,4 +43,4 @@ loop-k-preserved c =
 
 pub returns : goal.returns
 returns c =
-    record { line_begun = begun_from c.args.lines _ _ c.requires.1 c.loop-k.invariant.begun; lays_kept = kept-end _ _ _ c.args.options _ _ _ _ _ _ _ _ _ _ _ _ _ c.loop-k.invariant c.loop-k-test.false }
+    record { line_begun = begun_from c.args.lines _ _ c.requires.1 c.loop-k.invariant.begun; lays_kept = kept_end _ _ _ c.args.options _ _ _ _ _ _ _ _ _ _ _ _ _ c.loop-k.invariant c.loop-k-test.false }

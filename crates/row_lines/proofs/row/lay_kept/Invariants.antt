@@ -2,7 +2,7 @@
 use mathlib.Core.Path.{sym, ◌∙◌}
 use Prim.Native.Nat.{◌-◌}
 use native.Mathlib.Omega.{arith}
-use Rattle.row_lines.proofs.RowLaws.{KeptLaid, kept_start, edge-room, seat-room, kept_on, kept-long, kept-end, start_of, start_begun, start_below, begun_from}
+use Rattle.row_lines.proofs.RowLaws.{KeptLaid, kept_start, edge_room, seat_room, kept_on, kept_long, kept_end, start_of, start_begun, start_below, begun_from}
 use borrow.Author.Rules.{rules}
 use Rattle.row_lines.proofs.row.lay_kept.Given as goal
 

@@ -4,7 +4,7 @@ use mathlib.Core.Bool.{true}
 use native.Mathlib.Omega.{arith}
 use Rattle.bodies.proofs.FieldLaws.{FoundAt, found_at}
 use Rattle.row_lines.specs.Seat.{TextIs}
-use Rattle.row_lines.proofs.SeatLaws.{content_short, seat-text}
+use Rattle.row_lines.proofs.SeatLaws.{content_short, seat_text}
 use borrow.Author.Rules.{rules}
 use Rattle.row_lines.proofs.seat.add_kept.Goals as goal
 
@@ -36,7 +36,7 @@ pub returns-then-t : goal.returns-then-t
 returns-then-t c =
     let there : c.text_at-t.result.found ≡ true → TextIs c.args.cells.now c.args.at c.args.end c.text_at-t.result = λ e. c.text_at-t.ensures e in
     let t = there c.if-t.true in let f = found_at _ _ _ _ _ t.field in
-    record { added_in = record { grown = c.add_cell_text.ensures.line_grown; on = omega (arith, f.next_is) }; adds_kept = rw c.if-hung.false (seat-text _ _ _ _ c.args.options _ _ _ _ _ _ _ _ _ t.before t.field refl refl c.add_cell_text.ensures.adds_cell_text) }
+    record { added_in = record { grown = c.add_cell_text.ensures.line_grown; on = omega (arith, f.next_is) }; adds_kept = rw c.if-hung.false (seat_text _ _ _ _ c.args.options _ _ _ _ _ _ _ _ _ t.before t.field refl refl c.add_cell_text.ensures.adds_cell_text) }
 
 pub returns : goal.returns
 returns c =
