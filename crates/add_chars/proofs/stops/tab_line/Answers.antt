@@ -4,6 +4,7 @@ use native.Mathlib.Omega.{arith}
 use borrow.Author.Rules.{rules}
 use Rattle.add_chars.proofs.Stopping.{no_space, off_stop, Turning, going_stops, going_ends, turning, tabbed}
 use Rattle.add_chars.proofs.stops.tab_line.Goals as goal
+use Rattle.add_chars.proofs.stops.tab_line.Goals.{then-cur-eq0+else-cur, else-cur-eq0}
 
 pub loop-turns-init : goal.loop-turns-init
 loop-turns-init c =
@@ -23,7 +24,7 @@ returns-then-cur c =
 
 pub loop-turns-preserved : goal.loop-turns-preserved
 loop-turns-preserved c =
-    let on = ⊎_elim (λ w. no_space c.loop-turns.cur.pos c.loop-turns.cur.one w.1.left) (λ w. off_stop c.loop-turns.cur.pos c.loop-turns.cur.one w.left) c.if-cur-eq0.branch in
+    let on = elim c.if-cur-eq0.branch [ then-cur-eq0+else-cur w ↦ no_space c.loop-turns.cur.pos c.loop-turns.cur.one w.if-cur.false | else-cur-eq0 w ↦ off_stop c.loop-turns.cur.pos c.loop-turns.cur.one w.if-cur-eq0.false ] in
     turning c.loop-turns.invariant c.loop-turns-test.true on (search rules) (search rules) (search rules) c.tab_turn-cur.ensures.tab_moved c.tab_turn-cur.ensures.turns
 
 pub returns : goal.returns

@@ -4,6 +4,7 @@ use mathlib.Core.Logic.{inl, inr, ⊎_elim}
 use borrow.Author.Rules.{rules}
 use Rattle.add_text.proofs.WordChars.{walked_on, walked_wrapped, word_char_adds, word_char_wrapped}
 use Rattle.add_text.proofs.walk.add_cols.Goals as goal
+use Rattle.add_text.proofs.walk.add_cols.Goals.{then-run-eq1+else-frame-line, else-run-eq1}
 
 pub returns-then-frame-line : goal.returns-then-frame-line
 returns-then-frame-line c =
@@ -13,4 +14,4 @@ returns-then-frame-line c =
 pub returns : goal.returns
 returns c =
     record { walked_small = walked_on c.args.frame c.push_word-next-2.result c.args.w.ann _ c.push_word-next-2.ensures.counts_within_units_2 c.requires.ready.0.ann; adds_word_char = word_char_adds c.args.frame c.args.run c.args.w c.args.part.now c.args.code c.args.cols c.tag_of-2.result c.args.wb.now c.args.wt.now c.push_word-next-2.result _ _
-          c.requires.char_is.0 c.requires.ready.0.ann c.tag_of-2.ensures (⊎_elim (λ y. inl y.8.left) (λ y. inr y.left) c.if-run-eq1.branch) c.push_word-next-2.ensures.pushes_word }
+          c.requires.char_is.0 c.requires.ready.0.ann c.tag_of-2.ensures (elim c.if-run-eq1.branch [ then-run-eq1+else-frame-line y ↦ inl y.if-frame-line.false | else-run-eq1 y ↦ inr y.if-run-eq1.false ]) c.push_word-next-2.ensures.pushes_word }

@@ -5,15 +5,16 @@ use Rattle.extend_lines.proofs.Handing.{bytes_known}
 use Rattle.append_columns.proofs.LayLaws.{hands_names}
 use borrow.Author.Rules.{rules}
 use Rattle.append_columns.proofs.lay.hand_names.Goals as goal
+use Rattle.append_columns.proofs.lay.hand_names.Goals.{then-height-eq0, else-height-eq0}
 
 pub slice_bounds-hand_on-count : goal.slice_bounds-hand_on-count
 slice_bounds-hand_on-count c =
-    ⊎_elim (λ y. omega (arith, y.1, c.requires.1)) (λ y. omega (arith, y.1, c.requires.1)) c.if-height-eq0.branch
+    elim c.if-height-eq0.branch [ then-height-eq0 y ↦ omega (arith, y.left-is, c.requires.1) | else-height-eq0 y ↦ omega (arith, y.left-is, c.requires.1) ]
 
 pub slice_bounds-hand_on-start : goal.slice_bounds-hand_on-start
 slice_bounds-hand_on-start c =
-    ⊎_elim (λ y. omega (arith, y.1, c.requires.1)) (λ y. omega (arith, y.1, c.requires.1)) c.if-height-eq0.branch
+    elim c.if-height-eq0.branch [ then-height-eq0 y ↦ omega (arith, y.left-is, c.requires.1) | else-height-eq0 y ↦ omega (arith, y.left-is, c.requires.1) ]
 
 pub returns : goal.returns
 returns c =
-    hands_names _ _ c.args.lines _ c.args.sheet.now c.args.stop c.args.from c.args.height _ (bytes_known c.args.sheet.now (λ i. omega (arith, c.shared_slice_known-1.given i))) c.requires.0 c.requires.2 (⊎_elim (λ y. inl (y.0.taken, y.1)) (λ y. inr (y.0.left, y.1)) c.if-height-eq0.branch) c.hand_on.ensures.hands_on
+    hands_names _ _ c.args.lines _ c.args.sheet.now c.args.stop c.args.from c.args.height _ (bytes_known c.args.sheet.now (λ i. omega (arith, c.shared_slice_known-1.given i))) c.requires.0 c.requires.2 (elim c.if-height-eq0.branch [ then-height-eq0 y ↦ inl (y.if-height-eq0.true, y.left-is) | else-height-eq0 y ↦ inr (y.if-height-eq0.false, y.left-is) ]) c.hand_on.ensures.hands_on

@@ -6,7 +6,8 @@ use native.Mathlib.Omega.{arith}
 use borrow.Author.Rules.{rules}
 use Rattle.extend_lines.proofs.Emitting.{ends}
 use Rattle.extend_lines.proofs.line.finish_line.Goals as goal
+use Rattle.extend_lines.proofs.line.finish_line.Goals.{then-lines, else-lines}
 
 pub returns : goal.returns
 returns c =
-    record { one_line_more = record { count = refl; on = omega (arith, c.requires.1.base, c.requires.1.on); at = omega (arith, c.requires.1.at) }; finishes_line = ends _ _ _ _ _ _ c.requires.1.base refl refl (⊎_elim (λ y. inl (y.0.taken, y.1)) (λ y. inr (y.0.left, y.1)) c.if-lines.branch) c.put_head.ensures }
+    record { one_line_more = record { count = refl; on = omega (arith, c.requires.1.base, c.requires.1.on); at = omega (arith, c.requires.1.at) }; finishes_line = ends _ _ _ _ _ _ c.requires.1.base refl refl (elim c.if-lines.branch [ then-lines y ↦ inl (y.if-lines.true, y.long-is) | else-lines y ↦ inr (y.if-lines.false, y.long-is) ]) c.put_head.ensures }

@@ -7,6 +7,7 @@ use borrow.Author.Rules.{rules}
 use lib.Seq.{length-take-le}
 use Rattle.hard_wrap.proofs.Turns.{step_on, step_over, step_stuck}
 use Rattle.hard_wrap.proofs.piece.wrap_line.Goals as goal
+use Rattle.hard_wrap.proofs.piece.wrap_line.Goals.{then-split-eq0+else-st-eq0, else-split-eq0}
 
 pub slice_bounds-close_with-end : goal.slice_bounds-close_with-end
 slice_bounds-close_with-end c =
@@ -49,7 +50,7 @@ close_with-next-requires-2 c =
 
 pub returns : goal.returns
 returns c =
-    let m : 0 < c.args.split + c.args.st.cols = ⊎_elim (λ y. omega (arith, y.2.left)) (λ y. omega (arith, y.left)) c.if-split-eq0.branch in record { forward = record {
+    let m : 0 < c.args.split + c.args.st.cols = elim c.if-split-eq0.branch [ then-split-eq0+else-st-eq0 y ↦ omega (arith, y.if-st-eq0.false) | else-split-eq0 y ↦ omega (arith, y.if-split-eq0.false) ] in record { forward = record {
         n = c.close_with-next-2.ensures.emptied.n;
         cols = c.close_with-next-2.ensures.emptied.cols;
         place = c.close_with-next-2.ensures.emptied.place;

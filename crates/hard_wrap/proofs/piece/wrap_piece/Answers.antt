@@ -1,4 +1,3 @@
-use mathlib.Core.Logic.{⊎_elim}
 use mathlib.Core.List.{List}
 use mathlib.Core.Path.{◌≡◌, refl, ◌∙◌}
 use Prim.Native.Nat.{ℕ, ◌+◌, ◌-◌, ◌*◌, ◌^◌, ◌≤◌, ◌<◌, min}
@@ -16,6 +15,7 @@ use Rattle.hard_wrap.proofs.Piecewise.{Walked, forward_on, piece_start, piece_tu
 use Rattle.hard_wrap.proofs.Walks.{part_len, going_start, going_run, going_on, going_stop, going_end, split_same}
 use Rattle.fields.proofs.Texts.{rest as part-rest}
 use Rattle.hard_wrap.proofs.piece.wrap_piece.Goals as goal
+use Rattle.hard_wrap.proofs.piece.wrap_piece.Goals.{then-idx-rest, else-idx-rest+then-left-used, then-loop-bpos-test+else-wpos-frame, else-loop-bpos-test}
 
 pub loop-bpos-init : goal.loop-bpos-init
 loop-bpos-init c =
@@ -111,7 +111,7 @@ wrap_line-step-requires c =
     let fits : (c.walk.idx + c.plain_within-run.result.len ≤ length (rest))
     × (c.walk.used + c.plain_within-run.result.cols ≤ left)
     × (c.walk.used + c.plain_within-run.result.cols < 256) = omega (arith, part_len (rest) c.walk.idx, c.plain_within-run.ensures.len_in_bounds, c.walk.invariant.0, c.walk.invariant.1, c.requires.room.small) in
-    let place : c.if-idx-rest.split ≤ length (rest) = ⊎_elim (λ y. le_trans (le_of_eq y.1) (fits).0) (λ y. le_trans (le_of_eq y.6) (fits).0) c.if-idx-rest.branch in
+    let place : c.if-idx-rest.split ≤ length (rest) = elim c.if-idx-rest.branch [ then-idx-rest y ↦ le_trans (le_of_eq y.split-is) (fits).0 | else-idx-rest+then-left-used y ↦ le_trans (le_of_eq y.split-is) (fits).0 ] in
     let x = room in
     record { room = x.0; cols_le_width = (c.loop-bpos.invariant.cols, x.1, place, (fits).1) }
 
@@ -160,10 +160,10 @@ loop-bpos-preserved c =
     let i = c.walk.idx + c.plain_within-run.result.len in
     let used = c.walk.used + c.plain_within-run.result.cols in
     let p = past cs v e in
-    ⊎_elim
-    (λ y. split_same y.1 (going_end part cs i used l y.0.taken p).0)
-    (λ y. split_same y.6 (going_stop part cs i used y.2.result.len y.2.result.cols v y.0.left y.2.ensures.1 l y.5.taken p))
-    c.if-idx-rest.branch in
+    elim c.if-idx-rest.branch [
+      then-idx-rest y ↦ split_same y.split-is (going_end part cs i used l y.if-idx-rest.true p).0
+      | else-idx-rest+then-left-used y ↦ split_same y.split-is (going_stop part cs i used y.glyph-g.result.len y.glyph-g.result.cols v y.if-idx-rest.false y.glyph-g.ensures.shows l y.if-left-used.true p)
+    ] in
     let fw = moved in
     let pl = part_len c.args.piece.now c.loop-bpos.bpos in
     record {
@@ -210,10 +210,10 @@ returns-in-Stuck c =
     let i = c.walk.idx + c.plain_within-run.result.len in
     let used = c.walk.used + c.plain_within-run.result.cols in
     let p = past cs v e in
-    ⊎_elim
-    (λ y. split_same y.1 (going_end part cs i used l y.0.taken p).0)
-    (λ y. split_same y.6 (going_stop part cs i used y.2.result.len y.2.result.cols v y.0.left y.2.ensures.1 l y.5.taken p))
-    c.if-idx-rest.branch in
+    elim c.if-idx-rest.branch [
+      then-idx-rest y ↦ split_same y.split-is (going_end part cs i used l y.if-idx-rest.true p).0
+      | else-idx-rest+then-left-used y ↦ split_same y.split-is (going_stop part cs i used y.glyph-g.result.len y.glyph-g.result.cols v y.if-idx-rest.false y.glyph-g.ensures.shows l y.if-left-used.true p)
+    ] in
     record { grows = tt; pieces = λ d₀ base b t cs o ta ann sc e.
           let g = c.loop-bpos.invariant.going d₀ base b t cs o ta ann sc e in
           let f = part-rest c.args.piece.now c.loop-bpos.bpos ∙ g.rest in
@@ -224,7 +224,7 @@ returns-in-Stuck c =
 pub returns-then-bpos-piece : goal.returns-then-bpos-piece
 returns-then-bpos-piece c =
     let fit : c.width_of-w.result ≤ c.loop-bpos.wpos + (c.args.frame.width - c.loop-bpos.cur.cols) =
-    ⊎_elim (λ y. ltb-false (c.loop-bpos.wpos + (c.args.frame.width - c.loop-bpos.cur.cols)) c.width_of-w.result y.3.left) (λ y. absurd (omega (arith, y.left, c.if-bpos-piece.true))) c.loop-bpos-test.branch in
+    elim c.loop-bpos-test.branch [ then-loop-bpos-test+else-wpos-frame y ↦ omega (arith, y.if-wpos-frame.false) | else-loop-bpos-test y ↦ absurd (omega (arith, y.loop-bpos-test.false, c.if-bpos-piece.true)) ] in
     let pl = part_len c.args.piece.now c.loop-bpos.bpos in
     record { grows = record {
         n = omega (arith, c.put_text.ensures.longer, pl, c.loop-bpos.invariant);
