@@ -314,7 +314,7 @@ last_again s false rep from to cols b ps c =
     c.all_coming ∙ none_left
 last_again s true false from to cols b ps c =
     let none_left = read_none read_prefix c.after (sym (ap (read_all read_prefix) b) ∙ c.reads) in
-    c.all_coming ∙ ap (later false _) none_left
+    c.all_coming ∙ ap (later false (current s (record { found = true; from = from; to = to; cols = cols }))) none_left
 last_again s true true from to cols b ps c =
     let none_left = read_none read_prefix c.after (sym (ap (read_all read_prefix) b) ∙ c.reads) in (
       [],

@@ -89,7 +89,7 @@ add_rule_if-lines-requires c =
 pub overflow_add-tail : goal.overflow_add-tail
 overflow_add-tail c =
     let tail : c.sheet_parts-parts.result.names + c.add_cells-stacked.result.from ≤ length c.args.sheet.now = tail_inside _ c.sheet_parts-parts.result _ c.sheet_parts-parts.ensures.parts_in c.add_cells-stacked.ensures.in_bounds.1 in
-    omega (arith, tail, c.«NOSTEP»well-formed.1.0.0)
+    omega (arith, tail, c.well_formed.1.0.0)
 
 pub slice_bounds-hand_on-count : goal.slice_bounds-hand_on-count
 slice_bounds-hand_on-count c =

@@ -8,8 +8,11 @@ use Rattle.append_columns.proofs.lay.add_all.Goals as goal
 
 pub add_old-old-requires : goal.add_old-old-requires
 add_old-old-requires c =
-    let r = ((c.requires.old_in.0.low, c.requires.old_in.0.order, omega (arith, c.requires.old_in.0.names, c.requires.old_in.0.inside), c.requires.old_in.0.head, c.requires.old_in.0.near), ((c.requires.old_in.0.few, c.requires.old_in.0.fewer), (search rules, c.requires.old_in.1))) in
-    record { le_last = r.0; sheet_len_bound = r.1; border_len = r.2 }
+    record {
+      le_last = (c.requires.old_in.0.low, c.requires.old_in.0.order, omega (arith, c.requires.old_in.0.names, c.requires.old_in.0.inside), c.requires.old_in.0.head, c.requires.old_in.0.near);
+      sheet_len_bound = (c.requires.old_in.0.few, c.requires.old_in.0.fewer);
+      border_len = (search rules, c.requires.old_in.1);
+    }
 
 pub slice_bounds-add_row-count : goal.slice_bounds-add_row-count
 slice_bounds-add_row-count c =
@@ -41,7 +44,7 @@ shape_of-store-then-s c =
 
 pub returns-then-s : goal.returns-then-s
 returns-then-s c =
-    adds_plain c.args.options c.args.sheet.now c.args.stop c.args.from c.args.last c.args.joined c.args.cells.now c.args.collapse c.args.at.now c.args.end.now c.args.width.now c.args.to.now c.args.hung.now c.args.kept c.args.first c.args.s c.args.holes c.args.store.now _ _ _ _ _ _ _ _ c.close.result _ c.if-s.true c.add_old-old.ensures.adds_old c.add_row-rows.ensures.out_len_unchanged.1 c.add_below-lines.ensures.adds_below c.hand_names-tail.ensures c.close.ensures
+    adds_plain c.args.options c.args.sheet.now c.args.stop c.args.from c.args.last c.args.joined c.args.cells.now c.args.collapse c.args.at.now c.args.end.now c.args.width.now c.args.to.now c.args.hung.now c.args.kept c.args.first c.args.s c.args.holes c.args.store.now _ _ _ _ _ _ _ _ c.close.result _ c.if-s.true c.add_old-old.ensures.adds_old c.add_row-rows.ensures.adds_row c.add_below-lines.ensures.adds_below c.hand_names-tail.ensures c.close.ensures
 
 pub hang_on-all-requires : goal.hang_on-all-requires
 hang_on-all-requires c =
@@ -53,4 +56,4 @@ shape_of-store c =
 
 pub returns : goal.returns
 returns c =
-    adds_hung c.args.options c.args.sheet.now c.args.stop c.args.from c.args.last c.args.joined c.args.cells.now c.args.collapse c.args.at.now c.args.end.now c.args.width.now c.args.to.now c.args.hung.now c.args.kept c.args.first c.args.s c.args.holes c.args.store.now _ _ _ _ _ _ _ _ _ _ c.close-2.result _ c.add_old-old.ensures.adds_old c.add_row-rows.ensures.out_len_unchanged.1 c.add_below-lines.ensures.adds_below c.hand_names-tail.ensures c.hang_on-all.ensures.hangs_all c.close-2.ensures
+    adds_hung c.args.options c.args.sheet.now c.args.stop c.args.from c.args.last c.args.joined c.args.cells.now c.args.collapse c.args.at.now c.args.end.now c.args.width.now c.args.to.now c.args.hung.now c.args.kept c.args.first c.args.s c.args.holes c.args.store.now _ _ _ _ _ _ _ _ _ _ c.close-2.result _ c.add_old-old.ensures.adds_old c.add_row-rows.ensures.adds_row c.add_below-lines.ensures.adds_below c.hand_names-tail.ensures c.hang_on-all.ensures.hangs_all c.close-2.ensures

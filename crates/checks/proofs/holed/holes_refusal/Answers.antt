@@ -1,4 +1,5 @@
 use Prim.Native.Nat.{◌-◌}
+use mathlib.Core.Path.{subst}
 use native.Mathlib.Omega.{arith}
 use lib.ListN.{length, drop}
 use Rattle.fields.specs.Spans.{raw_holes}
@@ -16,46 +17,28 @@ loop-place-init c =
 
 pub slice_bounds-hole_refusal-count : goal.slice_bounds-hole_refusal-count
 slice_bounds-hole_refusal-count c =
-    let There : Type 0 = let h = At c.in-At.place c.in-At.letter c.in-At.start c.in-At.next in
-    HoleIn c.args.content.now c.loop-place.at h × RawAt c.args.content.now c.loop-place.at h in
-    let found : There = rw c.in-At.is at c.hole_at-h.ensures in
-    let ((p, b, o, i), r) = found in omega (arith, b, o, i)
+    let (p, b, o, i) = subst (HoleIn c.args.content.now c.loop-place.at) c.in-At.is c.hole_at-h.ensures.hole_in in omega (arith, b, o, i)
 
 pub slice_bounds-hole_refusal-start : goal.slice_bounds-hole_refusal-start
 slice_bounds-hole_refusal-start c =
-    let There : Type 0 = let h = At c.in-At.place c.in-At.letter c.in-At.start c.in-At.next in
-    HoleIn c.args.content.now c.loop-place.at h × RawAt c.args.content.now c.loop-place.at h in
-    let found : There = rw c.in-At.is at c.hole_at-h.ensures in
-    let ((p, b, o, i), r) = found in omega (arith, b, o, i)
+    let (p, b, o, i) = subst (HoleIn c.args.content.now c.loop-place.at) c.in-At.is c.hole_at-h.ensures.hole_in in omega (arith, b, o, i)
 
 pub slice_bounds-hole_refusal-end : goal.slice_bounds-hole_refusal-end
 slice_bounds-hole_refusal-end c =
-    let There : Type 0 = let h = At c.in-At.place c.in-At.letter c.in-At.start c.in-At.next in
-    HoleIn c.args.content.now c.loop-place.at h × RawAt c.args.content.now c.loop-place.at h in
-    let found : There = rw c.in-At.is at c.hole_at-h.ensures in
-    let ((p, b, o, i), r) = found in omega (arith, b, o, i)
+    let (p, b, o, i) = subst (HoleIn c.args.content.now c.loop-place.at) c.in-At.is c.hole_at-h.ensures.hole_in in omega (arith, b, o, i)
 
 pub hole_refusal-n-requires : goal.hole_refusal-n-requires
 hole_refusal-n-requires c =
-    let There : Type 0 = let h = At c.in-At.place c.in-At.letter c.in-At.start c.in-At.next in
-    HoleIn c.args.content.now c.loop-place.at h × RawAt c.args.content.now c.loop-place.at h in
-    let found : There = rw c.in-At.is at c.hole_at-h.ensures in
-    let ((p, b, o, i), r) = found in
+    let (p, b, o, i) = subst (HoleIn c.args.content.now c.loop-place.at) c.in-At.is c.hole_at-h.ensures.hole_in in
     (p, omega (arith, b, o, i, part_length c.in-At.start c.in-At.next c.args.content.now i))
 
 pub loop-place-smaller : goal.loop-place-smaller
 loop-place-smaller c =
-    let There : Type 0 = let h = At c.in-At.place c.in-At.letter c.in-At.start c.in-At.next in
-    HoleIn c.args.content.now c.loop-place.at h × RawAt c.args.content.now c.loop-place.at h in
-    let found : There = rw c.in-At.is at c.hole_at-h.ensures in
-    let ((p, b, o, i), r) = found in omega (arith, b, o, i)
+    let (p, b, o, i) = subst (HoleIn c.args.content.now c.loop-place.at) c.in-At.is c.hole_at-h.ensures.hole_in in omega (arith, b, o, i)
 
 pub loop-place-preserved : goal.loop-place-preserved
 loop-place-preserved c =
-    let There : Type 0 = let h = At c.in-At.place c.in-At.letter c.in-At.start c.in-At.next in
-    HoleIn c.args.content.now c.loop-place.at h × RawAt c.args.content.now c.loop-place.at h in
-    let found : There = rw c.in-At.is at c.hole_at-h.ensures in
-    rw c.first_of-worst.ensures (holes_on c.args.segments _ c.args.content.now c.loop-place.at _ c.loop-place.invariant _ c.in-At.next _ (found).1 c.hole_refusal-n.ensures)
+    rw c.first_of-worst.ensures (holes_on c.args.segments _ c.args.content.now c.loop-place.at _ c.loop-place.invariant _ c.in-At.next _ (subst (RawAt c.args.content.now c.loop-place.at) c.in-At.is c.hole_at-h.ensures.raw_at) c.hole_refusal-n.ensures)
 
 pub returns-in-Broken : goal.returns-in-Broken
 returns-in-Broken c =

@@ -49,8 +49,8 @@ loop-place-preserved c =
 
 pub returns-in-Broken : goal.returns-in-Broken
 returns-in-Broken c =
-    record { upper_bound = walk_few c.args.content.now _ _ _ _ c.loop-place.invariant; ends_at = walk_broken _ _ _ _ _ c.loop-place.invariant (told_hole _ _ _ _ c.hole_at-h.ensures.raw_at c.in-Broken.is) }
+    record { upper_bound = walk_few c.args.content.now _ _ _ _ c.loop-place.invariant; ends_at = walk_broken _ _ _ _ _ c.loop-place.invariant (told_hole c.args.content.now c.loop-place.at _ _ c.hole_at-h.ensures.raw_at c.in-Broken.is) }
 
 pub returns-in-End : goal.returns-in-End
 returns-in-End c =
-    record { upper_bound = last_few _ _ _ _ (walk_few c.args.content.now _ _ _ _ c.loop-place.invariant) c.larger.ensures; ends_at = walk_done _ _ _ _ _ c.loop-place.invariant _ (told_hole _ _ _ _ c.hole_at-h.ensures.raw_at c.in-End.is) c.larger.ensures }
+    record { upper_bound = last_few _ _ _ _ (walk_few c.args.content.now _ _ _ _ c.loop-place.invariant) c.larger.ensures; ends_at = walk_done _ _ _ _ _ c.loop-place.invariant _ (told_hole c.args.content.now c.loop-place.at _ _ c.hole_at-h.ensures.raw_at c.in-End.is) c.larger.ensures }

@@ -82,7 +82,7 @@ shape_of-out-in-Broken c =
 
 pub returns-in-Broken : goal.returns-in-Broken
 returns-in-Broken c =
-    record { line_grown = draw_little _ _ _ _ _ _ _ _ _ c.requires.segs_le_holes.0 c.requires.segs_le_holes.1 c.larger-end.ensures _ _ _ _ c.loop-place.invariant; draws_holes = draw_broken _ _ _ _ _ _ _ _ _ c.requires.segs_le_holes.0 c.requires.segs_le_holes.1 c.larger-end.ensures _ _ _ _ c.loop-place.invariant (told_hole _ _ _ _ c.hole_at-h.ensures.raw_at c.in-Broken.is) }
+    record { line_grown = draw_little _ _ _ _ _ _ _ _ _ c.requires.segs_le_holes.0 c.requires.segs_le_holes.1 c.larger-end.ensures _ _ _ _ c.loop-place.invariant; draws_holes = draw_broken _ _ _ _ _ _ _ _ _ c.requires.segs_le_holes.0 c.requires.segs_le_holes.1 c.larger-end.ensures _ _ _ _ c.loop-place.invariant (told_hole c.args.content.now c.loop-place.at _ _ c.hole_at-h.ensures.raw_at c.in-Broken.is) }
 
 pub slice_bounds-push_segments-count-in-End : goal.slice_bounds-push_segments-count-in-End
 slice_bounds-push_segments-count-in-End c =
@@ -107,4 +107,4 @@ push_segments-requires c =
 
 pub returns-in-End : goal.returns-in-End
 returns-in-End c =
-    record { line_grown = draw_last_grown _ _ _ _ _ _ _ _ _ c.requires.segs_le_holes.0 c.requires.segs_le_holes.1 c.larger-end.ensures _ _ _ _ c.loop-place.invariant _ c.push_segments.ensures.line_grown; draws_holes = draw_end _ _ _ _ _ _ _ _ _ c.requires.segs_le_holes.0 c.requires.segs_le_holes.1 c.larger-end.ensures _ _ _ _ c.loop-place.invariant _ _ (told_hole _ _ _ _ c.hole_at-h.ensures.raw_at c.in-End.is) c.push_segments.ensures.draws_part }
+    record { line_grown = draw_last_grown _ _ _ _ _ _ _ _ _ c.requires.segs_le_holes.0 c.requires.segs_le_holes.1 c.larger-end.ensures _ _ _ _ c.loop-place.invariant _ c.push_segments.ensures.line_grown; draws_holes = draw_end _ _ _ _ _ _ _ _ _ c.requires.segs_le_holes.0 c.requires.segs_le_holes.1 c.larger-end.ensures _ _ _ _ c.loop-place.invariant _ _ (told_hole c.args.content.now c.loop-place.at _ _ c.hole_at-h.ensures.raw_at c.in-End.is) c.push_segments.ensures.draws_part }

@@ -57,8 +57,8 @@ loop-place-preserved c =
 
 pub returns-in-Broken : goal.returns-in-Broken
 returns-in-Broken c =
-    look_broken _ _ _ _ _ c.loop-place.invariant (told_hole _ _ _ _ c.hole_at-h.ensures.raw_at c.in-Broken.is)
+    look_broken _ _ _ _ _ c.loop-place.invariant (told_hole c.args.content.now c.loop-place.at _ _ c.hole_at-h.ensures.raw_at c.in-Broken.is)
 
 pub returns-in-End : goal.returns-in-End
 returns-in-End c =
-    look_end _ _ _ _ _ c.loop-place.invariant (told_hole _ _ _ _ c.hole_at-h.ensures.raw_at c.in-End.is)
+    look_end _ _ _ _ _ c.loop-place.invariant (told_hole c.args.content.now c.loop-place.at _ _ c.hole_at-h.ensures.raw_at c.in-End.is)

@@ -16,7 +16,7 @@ shape_of-out-then-next-gt11529215046068469760 c =
 
 pub returns-then-next-gt11529215046068469760 : goal.returns-then-next-gt11529215046068469760
 returns-then-next-gt11529215046068469760 c =
-    record { count_value = c.loop-next.invariant.count; hangs_all = turns_far _ _ _ _ _ _ _ _ _ _ _ c.loop-next.invariant (bytes_known c.args.sheet.now (λ i. omega (arith, c.shared_slice_known-2-1.given i))) (omega (arith, c.«NOSTEP»well-formed.1.1.1.1.0.1)) c.if-next-gt11529215046068469760.true }
+    record { count_value = c.loop-next.invariant.count; hangs_all = turns_far _ _ _ _ _ _ _ _ _ _ _ c.loop-next.invariant (bytes_known c.args.sheet.now (λ i. omega (arith, c.shared_slice_known-2-1.given i))) (omega (arith, c.well_formed.1.1.1.1.0.1)) c.if-next-gt11529215046068469760.true }
 
 pub next_slot-slot-requires : goal.next_slot-slot-requires
 next_slot-slot-requires c =

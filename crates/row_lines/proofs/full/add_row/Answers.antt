@@ -9,12 +9,10 @@ add_full_lines-requires c =
 
 pub returns : goal.returns
 returns c =
-    let r = (
-      c.add_full_lines.ensures.in_bounds,
-      (
-        (search rules, search rules),
-        row_added c.args.out.now _ c.args.lines _ c.args.names.now c.args.options c.args.cells.now c.args.sheet.now c.args.at.now _ c.args.end.now c.args.width.now c.args.to.now c.args.hung.now
-            c.args.collapse c.args.kept _ c.args.height c.start_seats.ensures c.start_ahead.ensures c.add_full_lines.ensures.adds_full,
-      ),
-    ) in
-    record { in_bounds = r.0; out_len_unchanged = r.1; adds_row = r.2 }
+    record {
+      in_bounds = c.add_full_lines.ensures.in_bounds;
+      out_len_unchanged = (search rules, search rules);
+      adds_row =
+          row_added c.args.out.now _ c.args.lines _ c.args.names.now c.args.options c.args.cells.now c.args.sheet.now c.args.at.now _ c.args.end.now c.args.width.now c.args.to.now c.args.hung.now
+              c.args.collapse c.args.kept _ c.args.height c.start_seats.ensures c.start_ahead.ensures c.add_full_lines.ensures.adds_full;
+    }
