@@ -24,8 +24,12 @@ returns-then-cur c =
 
 pub loop-turns-preserved : goal.loop-turns-preserved
 loop-turns-preserved c =
-    let on = elim c.if-cur-eq0.branch [ then-cur-eq0+else-cur w ↦ no_space c.loop-turns.cur.pos c.loop-turns.cur.one w.if-cur.false | else-cur-eq0 w ↦ off_stop c.loop-turns.cur.pos c.loop-turns.cur.one w.if-cur-eq0.false ] in
-    turning c.loop-turns.invariant c.loop-turns-test.true on (search rules) (search rules) (search rules) c.tab_turn-cur.ensures.tab_moved c.tab_turn-cur.ensures.turns
+    turning c.loop-turns.invariant c.loop-turns-test.true
+    (elim c.if-cur-eq0.branch [
+      then-cur-eq0+else-cur w ↦ no_space c.loop-turns.cur.pos c.loop-turns.cur.one w.if-cur.false
+      | else-cur-eq0 w ↦ off_stop c.loop-turns.cur.pos c.loop-turns.cur.one w.if-cur-eq0.false
+    ])
+    (search rules) (search rules) (search rules) c.tab_turn-cur.ensures.tab_moved c.tab_turn-cur.ensures.turns
 
 pub returns : goal.returns
 returns c =
