@@ -36,7 +36,7 @@ add_cell_text-requires c =
 pub returns-then-letter-eq76 : goal.returns-then-letter-eq76
 returns-then-letter-eq76 c =
     let found : FoundAt c.args.s.now c.args.at c.in-At.letter c.in-At.start c.in-At.next = found_at _ _ _ _ _ (sym c.field_at-f.ensures.value ∙ c.in-At.is) in
-    let w = found in record { added_in = record { grown = c.add_cell_text.ensures.line_grown; on = omega (arith, w.next-is) }; adds_seat = seat_text _ _ _ _ c.args.options _ _ _ _ _ _ _ _ _ c.if-end-at.false (sym c.field_at-f.ensures.value ∙ c.in-At.is) c.if-letter-eq76.true refl c.add_cell_text.ensures.adds_cell_text }
+    let w = found in record { added_in = record { grown = c.add_cell_text.ensures.line_grown; on = omega (arith, w.next_is) }; adds_seat = seat_text _ _ _ _ c.args.options _ _ _ _ _ _ _ _ _ c.if-end-at.false (sym c.field_at-f.ensures.value ∙ c.in-At.is) c.if-letter-eq76.true refl c.add_cell_text.ensures.adds_cell_text }
 
 pub slice_bounds-add_pattern-count : goal.slice_bounds-add_pattern-count
 slice_bounds-add_pattern-count c =
@@ -87,7 +87,7 @@ add_border_of-requires c =
 pub returns-else-leaves_pattern : goal.returns-else-leaves_pattern
 returns-else-leaves_pattern c =
     let found : FoundAt c.args.s.now c.args.at c.in-At.letter c.in-At.start c.in-At.next = found_at _ _ _ _ _ (sym c.field_at-f.ensures.value ∙ c.in-At.is) in
-    let w = found in record { added_in = record { grown = c.add_border_of.ensures.line_grown; on = omega (arith, w.next-is) }; adds_seat = seat_border _ _ _ _ c.args.options _ _ _ _ _ _ _ _ _ c.if-end-at.false (sym c.field_at-f.ensures.value ∙ c.in-At.is) c.if-letter-eq76.false (sym c.leaves_pattern.ensures ∙ c.if-leaves_pattern.false) refl c.add_border_of.ensures.adds_border }
+    let w = found in record { added_in = record { grown = c.add_border_of.ensures.line_grown; on = omega (arith, w.next_is) }; adds_seat = seat_border _ _ _ _ c.args.options _ _ _ _ _ _ _ _ _ c.if-end-at.false (sym c.field_at-f.ensures.value ∙ c.in-At.is) c.if-letter-eq76.false (sym c.leaves_pattern.ensures ∙ c.if-leaves_pattern.false) refl c.add_border_of.ensures.adds_border }
 
 pub returns-in-Broken : goal.returns-in-Broken
 returns-in-Broken c =
