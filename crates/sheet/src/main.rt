@@ -2,41 +2,43 @@
 #![tactic(auto)]
 
 use fields::answer::Rendered;
-use libc::{STDIN_FILENO, STDOUT_FILENO};
+use input::read_full;
 use render::render;
+use std::io;
+use std::io::Stdout;
 
 // Writes the first bytes of the store.
-fn write_sheet(store: &[u8], len: usize) {
+fn write_sheet(out: &Stdout, store: &[u8], len: usize) -> io::Result<()> {
     if len <= store.len() {
-        io::write_all(STDOUT_FILENO, &store[..len]);
+        out.write_all(&store[..len])?;
     }
+    Ok(())
 }
 
 // Says a refusal.
-fn refuse(number: u8) {
-    io::write_all(STDOUT_FILENO, b"refused ");
-    io::print_decimal(STDOUT_FILENO, number as u64);
-    io::write_all(STDOUT_FILENO, b"\n");
+fn refuse(out: &Stdout, number: u8) -> io::Result<()> {
+    println!(out; "refused {number}")
 }
 
 // Writes the job's sheet or says its refusal.
-fn answer(job: &[u8], store: &mut [u8]) {
+fn answer(out: &Stdout, job: &[u8], store: &mut [u8]) -> io::Result<()> {
     let rendered = render(job, store);
     match rendered {
-        Rendered::Sheet(len) => write_sheet(store, len),
-        Rendered::Refused(number) => refuse(number),
-        Rendered::StoreShort(_) => refuse(8),
+        Rendered::Sheet(len) => write_sheet(out, store, len),
+        Rendered::Refused(number) => refuse(out, number),
+        Rendered::StoreShort(_) => refuse(out, 8),
     }
 }
 
 // One byte more than a job can have is read, so that a longer input shows.
-fn main() {
+fn main(rt: HostRuntime) -> io::Result<()> {
     let mut input = [0u8; 65537];
     let mut store = [0u8; 65536];
-    let len = io::read_full(STDIN_FILENO, &mut input);
+    let out = rt.stdout();
+    let len = read_full(&mut rt.stdin(), &mut input)?;
     if len == 65537 {
-        refuse(1);
+        refuse(&out, 1)
     } else {
-        answer(&input[..len], &mut store);
+        answer(&out, &input[..len], &mut store)
     }
 }
