@@ -25,4 +25,4 @@ returns c =
         count = refl;
         on = omega (arith, c.put_head-start.ensures.place, c.put_byte-first.ensures.place, c.put_two-second.ensures.place, c.put_bytes-third.ensures.place, c.put_bytes-end.ensures.place);
         at = omega (arith, c.put_head-start.ensures.place, c.put_byte-first.ensures.place, c.put_two-second.ensures.place, c.put_bytes-third.ensures.place, c.put_bytes-end.ensures.place, size, c.requires.2, c.requires.3);
-      }; puts_joined = joined_holed _ _ _ _ _ _ _ _ c.args.letter c.args.content.now c.args.holes c.args.segs.now _ _ _ _ _ (bytes_known c.args.content.now (λ i. omega (arith, c.shared_slice_known-1.given i))) c.if-letter-ne71.false refl refl (elim c.if-lines.branch [ then-lines y ↦ inl (y.if-lines.true, y.long-is) | else-lines y ↦ inr (y.if-lines.false, y.long-is) ]) c.put_head-start.ensures c.put_byte-first.ensures c.put_two-second.ensures c.put_bytes-third.ensures y }
+      }; puts_joined = joined_holed _ _ _ _ _ _ _ _ c.args.letter c.args.content.now c.args.holes c.args.segs.now _ _ _ _ _ (bytes_known c.args.content.now (λ i. omega (arith, c.shared_slice_known-1.given i))) c.if-letter-ne71.false refl refl (elim c.if-lines.branch [ then-lines y ↦ inl (y.if-lines.true, y.long-is) | else-lines y ↦ inr (y.if-lines.false, y.long-is) ]) c.put_head-start.ensures c.put_byte-first.ensures c.put_two-second.ensures c.put_bytes-third.ensures c.put_bytes-end.ensures }
