@@ -78,10 +78,10 @@ copied st o₁ p₀ p₁ bs r old begun at copies = copies old.lines at.lines.re
 
 -- A place in the names is one of the sheet.
 pub tail_inside : (bs : List ℕ) (r : Parts) (from : ℕ) → PartsIn bs r → from ≤ length (part r.names r.hanging bs) → r.names + from ≤ length bs
-tail_inside bs r from in_order_lem few =
+tail_inside bs r from in_order few =
     let k = r.names in
-    let m = length-take-le (r.hanging - k) (drop k bs) (omega (arith, in_order_lem.order, in_order_lem.inside, length-drop k bs)) in
-    omega (arith, m, few, in_order_lem.order, in_order_lem.inside)
+    let m = length-take-le (r.hanging - k) (drop k bs) (omega (arith, in_order.order, in_order.inside, length-drop k bs)) in
+    omega (arith, m, few, in_order.order, in_order.inside)
 
 -- The bytes from a place in the names on: the names that still wait, and what hangs.
 tail_reads : (bs : List ℕ) (r : Parts) (from : ℕ) (old : Sheet) (ns : List (List ℕ)) → SheetAt bs r old → from ≤ length (part r.names r.hanging bs)

@@ -13,9 +13,11 @@ use append_columns::append_columns_with_borders;
 use append_subrender::{append_subrender, append_vert_row};
 use fields::answer::Rendered;
 use fields::field::wide;
-use libc::{STDIN_FILENO, STDOUT_FILENO};
+use input::read_full;
 use render::render;
 use rows::RenderOptions;
+use std::io;
+use std::io::{Stdin, Stdout};
 
 // What fills the store before the call.
 const FILL: u8 = 0xEE;
@@ -74,17 +76,17 @@ fn three(high: u8, middle: u8, low: u8) -> usize
 }
 
 // Reads which call a record asks for.
-fn read_head() -> Head {
+fn read_head(from: &mut Stdin) -> io::Result<Head> {
     let mut head = [0u8; 6];
-    let got = io::read_full(STDIN_FILENO, &mut head);
+    let got = read_full(from, &mut head)?;
     if got == 0 {
-        return Head::End;
+        return Ok(Head::End);
     }
     if got != 6 || 3 < head[0] {
-        return Head::Unread;
+        return Ok(Head::Unread);
     }
     let flags = head[2];
-    Head::Asked(Call {
+    Ok(Head::Asked(Call {
         kind: head[0],
         options: RenderOptions {
             width: head[1],
@@ -93,56 +95,56 @@ fn read_head() -> Head {
             annotation: head[3],
         },
         flag: flags & 4 != 0,
-    })
+    }))
 }
 
 // Reads what stands between a record's inputs and its sheet.
-fn read_tail() -> Tail {
+fn read_tail(from: &mut Stdin) -> io::Result<Tail> {
     let mut tail = [0u8; 8];
-    if io::read_full(STDIN_FILENO, &mut tail) != 8 {
-        return Tail::Unread;
+    if read_full(from, &mut tail)? != 8 {
+        return Ok(Tail::Unread);
     }
-    Tail::Asks(Answer {
+    Ok(Tail::Asks(Answer {
         store: three(tail[0], tail[1], tail[2]),
         number: tail[3],
         length: wide(tail[4]) * 16777216 + three(tail[5], tail[6], tail[7]),
-    })
+    }))
 }
 
 // Reads bytes that fill the slice, and says whether there were so many.
-fn read(bytes: &mut [u8]) -> bool {
+fn read(from: &mut Stdin, bytes: &mut [u8]) -> io::Result<bool> {
     let len = bytes.len();
-    io::read_full(STDIN_FILENO, bytes) == len
+    Ok(read_full(from, bytes)? == len)
 }
 
 // Reads the length of an input; where the file ends, it is longer than every space.
-fn read_length() -> usize {
+fn read_length(from: &mut Stdin) -> io::Result<usize> {
     let mut bytes = [0u8; 3];
-    if io::read_full(STDIN_FILENO, &mut bytes) != 3 {
-        return usize::MAX;
+    if read_full(from, &mut bytes)? != 3 {
+        return Ok(usize::MAX);
     }
-    three(bytes[0], bytes[1], bytes[2])
+    Ok(three(bytes[0], bytes[1], bytes[2]))
 }
 
 // Reads an input into a part of its space and answers its length; one that cannot be read is longer than every space.
-fn read_input(space: &mut [u8]) -> usize {
-    let len = read_length();
+fn read_input(from: &mut Stdin, space: &mut [u8]) -> io::Result<usize> {
+    let len = read_length(from)?;
     if space.len() < len {
-        return usize::MAX;
+        return Ok(usize::MAX);
     }
-    if read(&mut space[..len]) {
-        len
+    if read(from, &mut space[..len])? {
+        Ok(len)
     } else {
-        usize::MAX
+        Ok(usize::MAX)
     }
 }
 
 // The same for the second input, which a job has not, and for the third, which a record of kind 1 alone has.
-fn read_further(there: bool, space: &mut [u8]) -> usize {
+fn read_further(from: &mut Stdin, there: bool, space: &mut [u8]) -> io::Result<usize> {
     if there {
-        return read_input(space);
+        return read_input(from, space);
     }
-    0
+    Ok(0)
 }
 
 // Fills the store.
@@ -210,6 +212,7 @@ fn agrees(
 
 // The same with the sheet, which fills the slice, still to be read.
 fn reads_and_agrees(
+    from: &mut Stdin,
     call: Call,
     old: &[u8],
     guest: &[u8],
@@ -217,12 +220,13 @@ fn reads_and_agrees(
     answer: Answer,
     sheet: &mut [u8],
     store: &mut [u8],
-) -> bool {
-    read(sheet) && agrees(call, old, guest, prefixes, answer, sheet, store)
+) -> io::Result<bool> {
+    Ok(read(from, sheet)? && agrees(call, old, guest, prefixes, answer, sheet, store))
 }
 
 // The same in parts of the spaces; what is longer than its space cannot be read.
 fn agrees_within(
+    from: &mut Stdin,
     call: Call,
     old: &[u8],
     guest: &[u8],
@@ -230,16 +234,17 @@ fn agrees_within(
     answer: Answer,
     sheets: &mut [u8],
     stores: &mut [u8],
-) -> bool {
+) -> io::Result<bool> {
     let len = if answer.number == 0 { answer.length } else { 0 };
     let size = answer.store;
     if sheets.len() < len {
-        return false;
+        return Ok(false);
     }
     if stores.len() < size {
-        return false;
+        return Ok(false);
     }
     reads_and_agrees(
+        from,
         call,
         old,
         guest,
@@ -252,51 +257,54 @@ fn agrees_within(
 
 // Reads what a record has after its inputs, and compares.
 fn replay_call(
+    from: &mut Stdin,
     call: Call,
     old: &[u8],
     guest: &[u8],
     prefixes: &[u8],
     sheets: &mut [u8],
     stores: &mut [u8],
-) -> Turn {
-    let tail = read_tail();
+) -> io::Result<Turn> {
+    let tail = read_tail(from)?;
     match tail {
         Tail::Asks(answer) => {
-            if agrees_within(call, old, guest, prefixes, answer, sheets, stores) {
-                Turn::Same {
+            if agrees_within(from, call, old, guest, prefixes, answer, sheets, stores)? {
+                Ok(Turn::Same {
                     kind: call.kind,
                     number: answer.number,
-                }
+                })
             } else {
-                Turn::Different
+                Ok(Turn::Different)
             }
         }
-        Tail::Unread => Turn::Different,
+        Tail::Unread => Ok(Turn::Different),
     }
 }
 
 // The same with the inputs still to be read.
 fn replay_within(
+    from: &mut Stdin,
     call: Call,
     olds: &mut [u8],
     guests: &mut [u8],
     lists: &mut [u8],
     sheets: &mut [u8],
     stores: &mut [u8],
-) -> Turn {
-    let old = read_input(olds);
-    let guest = read_further(call.kind != 0, guests);
-    let list = read_further(call.kind == 1, lists);
+) -> io::Result<Turn> {
+    let old = read_input(from, olds)?;
+    let guest = read_further(from, call.kind != 0, guests)?;
+    let list = read_further(from, call.kind == 1, lists)?;
     if olds.len() < old {
-        return Turn::Different;
+        return Ok(Turn::Different);
     }
     if guests.len() < guest {
-        return Turn::Different;
+        return Ok(Turn::Different);
     }
     if lists.len() < list {
-        return Turn::Different;
+        return Ok(Turn::Different);
     }
     replay_call(
+        from,
         call,
         &olds[..old],
         &guests[..guest],
@@ -308,28 +316,30 @@ fn replay_within(
 
 // Reads and compares one record; one that cannot be read whole is different.
 fn replay(
+    from: &mut Stdin,
     olds: &mut [u8],
     guests: &mut [u8],
     lists: &mut [u8],
     sheets: &mut [u8],
     stores: &mut [u8],
-) -> Turn {
-    let head = read_head();
+) -> io::Result<Turn> {
+    let head = read_head(from)?;
     match head {
-        Head::Asked(call) => replay_within(call, olds, guests, lists, sheets, stores),
-        Head::Unread => Turn::Different,
-        Head::End => Turn::End,
+        Head::Asked(call) => replay_within(from, call, olds, guests, lists, sheets, stores),
+        Head::Unread => Ok(Turn::Different),
+        Head::End => Ok(Turn::End),
     }
 }
 
 // Counts a number, a kind's or an answer's.
 fn count(counts: &mut [u64; 256], number: u8) {
     let at = wide(number);
-    counts[at] = std::num::wrapping_add_u64(counts[at], 1);
+    counts[at] = counts[at].wrapping_add(1);
 }
 
 // Replays the records up to the end of the file.
 fn replay_all(
+    from: &mut Stdin,
     olds: &mut [u8],
     guests: &mut [u8],
     lists: &mut [u8],
@@ -337,11 +347,11 @@ fn replay_all(
     stores: &mut [u8],
     kinds: &mut [u64; 256],
     numbers: &mut [u64; 256],
-) -> Tally {
+) -> io::Result<Tally> {
     let mut records: u64 = 0;
     let mut differences: u64 = 0;
     while records < u64::MAX {
-        let turn = replay(olds, guests, lists, sheets, stores);
+        let turn = replay(from, olds, guests, lists, sheets, stores)?;
         match turn {
             Turn::Same { kind, number } => {
                 records += 1;
@@ -357,38 +367,32 @@ fn replay_all(
             }
         }
     }
-    Tally {
+    Ok(Tally {
         records,
         differences,
-    }
-}
-
-// Writes a line of a word and a number.
-fn print(word: &[u8], n: u64) {
-    io::write_all(STDOUT_FILENO, word);
-    io::print_decimal(STDOUT_FILENO, n);
-    io::write_all(STDOUT_FILENO, b"\n");
+    })
 }
 
 // Writes how often a number came, if it came, behind a word.
-fn print_count(word: &[u8], number: u64, n: u64) {
+fn print_count(out: &Stdout, word: &[u8], number: u64, n: u64) -> io::Result<()> {
     if n != 0 {
-        io::write_all(STDOUT_FILENO, word);
-        io::print_decimal(STDOUT_FILENO, number);
-        print(b": ", n);
+        out.write_all(word)?;
+        println!(out; "{number}: {n}")?;
     }
+    Ok(())
 }
 
 // The same for each number.
-fn print_counts(word: &[u8], counts: &[u64; 256]) {
+fn print_counts(out: &Stdout, word: &[u8], counts: &[u64; 256]) -> io::Result<()> {
     let mut number: usize = 0;
     while number < 256 {
-        print_count(word, number as u64, counts[number]);
+        print_count(out, word, number as u64, counts[number])?;
         number += 1;
     }
+    Ok(())
 }
 
-fn main() {
+fn main(rt: HostRuntime) -> io::Result<()> {
     let mut olds = [0u8; 262144];
     let mut guests = [0u8; 262144];
     let mut lists = [0u8; 262144];
@@ -397,6 +401,7 @@ fn main() {
     let mut kinds = [0u64; 256];
     let mut numbers = [0u64; 256];
     let tally = replay_all(
+        &mut rt.stdin(),
         &mut olds,
         &mut guests,
         &mut lists,
@@ -404,9 +409,12 @@ fn main() {
         &mut stores,
         &mut kinds,
         &mut numbers,
-    );
-    print(b"records: ", tally.records);
-    print_counts(b"kind ", &kinds);
-    print_counts(b"number ", &numbers);
-    print(b"differences: ", tally.differences);
+    )?;
+    let records = tally.records;
+    let differences = tally.differences;
+    let out = rt.stdout();
+    println!(out; "records: {records}")?;
+    print_counts(&out, b"kind ", &kinds)?;
+    print_counts(&out, b"number ", &numbers)?;
+    println!(out; "differences: {differences}")
 }

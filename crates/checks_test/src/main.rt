@@ -9,7 +9,9 @@ use checks::sheet::sheet_refusal;
 use fields::field::wide;
 use fields::job::job_refusal;
 use fields::prefixes::prefixes_refusal;
-use libc::{STDIN_FILENO, STDOUT_FILENO};
+use input::read_full;
+use std::io;
+use std::io::Stdin;
 
 // What a record starts with; the file can also end here, or in the middle of it.
 #[derive(Clone, Copy)]
@@ -45,64 +47,64 @@ fn refusal(kind: u8, input: &[u8]) -> u8 {
 }
 
 // Reads the kind and the length of a record.
-fn read_head() -> Head {
+fn read_head(from: &mut Stdin) -> io::Result<Head> {
     let mut head = [0u8; 4];
-    let got = io::read_full(STDIN_FILENO, &mut head);
+    let got = read_full(from, &mut head)?;
     if got == 0 {
-        return Head::End;
+        return Ok(Head::End);
     }
     if got != 4 {
-        return Head::Cut;
+        return Ok(Head::Cut);
     }
-    Head::Input {
+    Ok(Head::Input {
         kind: head[0],
         len: wide(head[1]) * 65536 + wide(head[2]) * 256 + wide(head[3]),
-    }
+    })
 }
 
 // Reads the input, which fills the slice, and its number, and says whether its refusal is that number.
-fn agrees(kind: u8, input: &mut [u8]) -> bool {
+fn agrees(from: &mut Stdin, kind: u8, input: &mut [u8]) -> io::Result<bool> {
     let len = input.len();
-    if io::read_full(STDIN_FILENO, input) != len {
-        return false;
+    if read_full(from, input)? != len {
+        return Ok(false);
     }
     let mut number = [0u8; 1];
-    if io::read_full(STDIN_FILENO, &mut number) != 1 {
-        return false;
+    if read_full(from, &mut number)? != 1 {
+        return Ok(false);
     }
-    kind < 4 && refusal(kind, input) == number[0]
+    Ok(kind < 4 && refusal(kind, input) == number[0])
 }
 
 // The same for an input of a length, in a part of the space; one that is longer cannot be read.
-fn agrees_within(kind: u8, len: usize, space: &mut [u8]) -> bool {
+fn agrees_within(from: &mut Stdin, kind: u8, len: usize, space: &mut [u8]) -> io::Result<bool> {
     if space.len() < len {
-        return false;
+        return Ok(false);
     }
-    agrees(kind, &mut space[..len])
+    agrees(from, kind, &mut space[..len])
 }
 
 // Reads and compares one record; one that cannot be read whole is different.
-fn replay(space: &mut [u8]) -> Turn {
-    let head = read_head();
+fn replay(from: &mut Stdin, space: &mut [u8]) -> io::Result<Turn> {
+    let head = read_head(from)?;
     match head {
         Head::Input { kind, len } => {
-            if agrees_within(kind, len, space) {
-                Turn::Same
+            if agrees_within(from, kind, len, space)? {
+                Ok(Turn::Same)
             } else {
-                Turn::Different
+                Ok(Turn::Different)
             }
         }
-        Head::Cut => Turn::Different,
-        Head::End => Turn::End,
+        Head::Cut => Ok(Turn::Different),
+        Head::End => Ok(Turn::End),
     }
 }
 
 // Replays the records up to the end of the file.
-fn replay_all(space: &mut [u8]) -> Tally {
+fn replay_all(from: &mut Stdin, space: &mut [u8]) -> io::Result<Tally> {
     let mut records: u64 = 0;
     let mut differences: u64 = 0;
     while records < u64::MAX {
-        let turn = replay(space);
+        let turn = replay(from, space)?;
         match turn {
             Turn::Same => {
                 records += 1;
@@ -116,22 +118,17 @@ fn replay_all(space: &mut [u8]) -> Tally {
             }
         }
     }
-    Tally {
+    Ok(Tally {
         records,
         differences,
-    }
+    })
 }
 
-// Writes a line of a word and a number.
-fn print(word: &[u8], n: u64) {
-    io::write_all(STDOUT_FILENO, word);
-    io::print_decimal(STDOUT_FILENO, n);
-    io::write_all(STDOUT_FILENO, b"\n");
-}
-
-fn main() {
+fn main(rt: HostRuntime) -> io::Result<()> {
     let mut space = [0u8; 262144];
-    let tally = replay_all(&mut space);
-    print(b"inputs checked: ", tally.records);
-    print(b"differences: ", tally.differences);
+    let tally = replay_all(&mut rt.stdin(), &mut space)?;
+    let records = tally.records;
+    let differences = tally.differences;
+    println!(rt; "inputs checked: {records}")?;
+    println!(rt; "differences: {differences}")
 }

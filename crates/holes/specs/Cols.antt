@@ -28,7 +28,7 @@ unfoldable pub walk_end : ℕ → ℕ → List Hole → ℕ
 walk_end end pos [] = pos + (end - pos)
 walk_end end pos (h ∷ hs) = walk_end end (at_hole pos h.place + piece_width h.piece) hs
 
--- `walk_end_lem`
+-- `walk_end`
 abbrev pub EndsAt : List ℕ → ℕ → ℕ → ℕ → Type 0
 EndsAt s holes end r = (n : ℕ) (hs : List Hole) → Fits n s holes hs → n ≤ end → r ≡ walk_end end 0 hs
 

@@ -156,7 +156,7 @@ pub puts_border : (out o₁ o₂ o₃ out' : List ℕ) (at letter : ℕ) (bytes 
     → Wrote o₁ start (part parts.segs parts.holes bytes) o₂ mid → Wrote o₂ mid (replicate more 0) o₃ end
     → Wrote o₃ end (part parts.holes (length bytes) bytes) out' r → PutsBorder out at letter bytes to out' r
 unfolding holes_bytes
-puts_border out o₁ o₂ o₃ out' at letter bytes to more parts start mid end r k in_order_lem finds lacks u v w x a ss hs read =
+puts_border out o₁ o₂ o₃ out' at letter bytes to more parts start mid end r k in_order finds lacks u v w x a ss hs read =
     go hs (some_of (λ (l : RenderLine). field (line-letter l) (content l) ≡ field letter bytes) (read_line (whole letter bytes)) (border a ss hs) read (line_same letter bytes k))
     (some_of (λ (l : List Hole). holes_bytes l ≡ drop parts.holes bytes) (read_holes (raw_holes (drop parts.holes bytes))) hs b.punched.reads (holes_same (drop parts.holes bytes) (bytes_drop parts.holes bytes k)))
   where
@@ -164,7 +164,7 @@ puts_border out o₁ o₂ o₃ out' at letter bytes to more parts start mid end 
     b = finds a ss hs read
 
     count : parts.holes - parts.segs ≡ length ss
-    count = sym (part_length parts.segs parts.holes bytes in_order_lem.inside) ∙ ap length b.segments
+    count = sym (part_length parts.segs parts.holes bytes in_order.inside) ∙ ap length b.segments
 
     lacking : more ≡ to - length ss
     lacking = rw count at lacks

@@ -17,4 +17,4 @@ slice_bounds-hand_on-start c =
 
 pub returns : goal.returns
 returns c =
-    hands_names _ _ c.args.lines _ c.args.sheet.now c.args.stop c.args.from c.args.height _ (bytes_known c.args.sheet.now (λ i. omega (arith, c.shared_slice_known-1.given i))) c.requires.0 c.requires.2 (elim c.if-height-eq0.branch [ then-height-eq0 y ↦ inl (y.if-height-eq0.true, y.left-is) | else-height-eq0 y ↦ inr (y.if-height-eq0.false, y.left-is) ]) c.hand_on.ensures.hands_on
+    hands_names _ _ c.args.lines _ c.args.sheet.now c.args.stop c.args.from c.args.height _ (bytes_known c.args.sheet.now (λ i. omega (arith, c.type_inv.sheet i))) c.requires.0 c.requires.2 (elim c.if-height-eq0.branch [ then-height-eq0 y ↦ inl (y.if-height-eq0.true, y.left-is) | else-height-eq0 y ↦ inr (y.if-height-eq0.false, y.left-is) ]) c.hand_on.ensures.hands_on

@@ -15,7 +15,7 @@ too_long-requires c =
 
 pub returns-then-names-gt65535 : goal.returns-then-names-gt65535
 returns-then-names-gt65535 c =
-    let known : Bytes c.args.names.now = bytes_known c.args.names.now (λ i. omega (arith, c.shared_slice_known-1.given i)) in
+    let known : Bytes c.args.names.now = bytes_known c.args.names.now (λ i. omega (arith, c.type_inv.names i)) in
     record { one_line_more = c.too_long.ensures.0; adds_prefixed = prefixed_long _ _ _ _ c.args.names.now _ _ _ _ (known) c.if-names-gt65535.true c.too_long.ensures.0 c.too_long.ensures.1 }
 
 pub begin_line-line-requires : goal.begin_line-line-requires
@@ -36,7 +36,7 @@ add_text_line-requires c =
 
 pub returns-then-letter-eq76 : goal.returns-then-letter-eq76
 returns-then-letter-eq76 c =
-    let known : Bytes c.args.names.now = bytes_known c.args.names.now (λ i. omega (arith, c.shared_slice_known-1.given i)) in
+    let known : Bytes c.args.names.now = bytes_known c.args.names.now (λ i. omega (arith, c.type_inv.names i)) in
     record { one_line_more = c.add_text_line.ensures.one_line_more; adds_prefixed = prefixed_text _ _ _ _ _ _ _ _ c.args.names.now _ _ _ _ _ _ _ _ (known) refl c.if-letter-eq76.true (search rules) c.begin_line-line.ensures.begins_line c.push_str-head.ensures.pushes c.add_pieces-whole.ensures.adds_pieces c.add_text_line.ensures.adds_text_line }
 
 pub push_holed-drawn-requires : goal.push_holed-drawn-requires

@@ -21,4 +21,4 @@ overflow_add-result-2 c =
 
 pub returns : goal.returns
 returns c =
-    record { parts_in = parts_in c.args.s.now c.body_parts-found.result c.if-s-lt5.false c.body_parts-found.ensures; finds_parts = finds_parts c.args.s.now c.body_parts-found.result c.if-s-lt5.false c.body_parts-found.ensures (c.shared_slice_known-1.given 3).fits (c.shared_slice_known-1.given 4).fits }
+    record { parts_in = parts_in c.args.s.now c.body_parts-found.result c.if-s-lt5.false c.body_parts-found.ensures; finds_parts = finds_parts c.args.s.now c.body_parts-found.result c.if-s-lt5.false c.body_parts-found.ensures (c.type_inv.s 3).fits (c.type_inv.s 4).fits }

@@ -13,4 +13,4 @@ returns-then-letter-eq76 c =
 
 pub returns : goal.returns
 returns c =
-    let n = field_most _ _ _ _ _ _ c.put_field-end.ensures in record { one_line_more = record { count = refl; on = omega (arith, n); at = omega (arith, n, c.requires.1) }; copies_line = copies_border _ _ _ _ _ _ (bytes_known c.args.content.now (λ i. omega (arith, c.shared_slice_known-1.given i))) c.requires.1 refl refl c.put_field-end.ensures }
+    let n = field_most _ _ _ _ _ _ c.put_field-end.ensures in record { one_line_more = record { count = refl; on = omega (arith, n); at = omega (arith, n, c.requires.1) }; copies_line = copies_border _ _ _ _ _ _ (bytes_known c.args.content.now (λ i. omega (arith, c.type_inv.content i))) c.requires.1 refl refl c.put_field-end.ensures }

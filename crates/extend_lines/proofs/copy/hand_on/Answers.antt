@@ -13,4 +13,4 @@ put_bytes-at-requires c =
 
 pub returns : goal.returns
 returns c =
-    record { count_value = refl; hands_on = hands_on _ _ _ _ _ (bytes_known c.args.fields.now (λ i. omega (arith, c.shared_slice_known-1.given i))) refl refl c.put_bytes-at.ensures }
+    record { count_value = refl; hands_on = hands_on _ _ _ _ _ (bytes_known c.args.fields.now (λ i. omega (arith, c.type_inv.fields i))) refl refl c.put_bytes-at.ensures }

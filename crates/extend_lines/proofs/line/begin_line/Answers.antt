@@ -17,4 +17,4 @@ put_bytes-at-requires c =
 
 pub returns : goal.returns
 returns c =
-    record { line_begun = (record { base = refl; on = omega (arith, c.put_bytes-at.ensures.place); piece = omega arith; at = omega (arith, c.put_bytes-at.ensures.place, c.requires.1); cols = omega arith }, refl); begins_line = begins _ _ c.args.names.now _ (bytes_known c.args.names.now (λ i. omega (arith, c.shared_slice_known-1.given i))) refl refl c.put_bytes-at.ensures }
+    record { line_begun = (record { base = refl; on = omega (arith, c.put_bytes-at.ensures.place); piece = omega arith; at = omega (arith, c.put_bytes-at.ensures.place, c.requires.1); cols = omega arith }, refl); begins_line = begins _ _ c.args.names.now _ (bytes_known c.args.names.now (λ i. omega (arith, c.type_inv.names i))) refl refl c.put_bytes-at.ensures }

@@ -20,8 +20,8 @@ returns-then-wide-ne3 c =
 
 pub returns-then-flags-ne0 : goal.returns-then-flags-ne0
 returns-then-flags-ne0 c =
-    high_none _ _ _ (c.shared_slice_known-5-1.given 4).fits c.if-flags-ne0.true ∙ sym (head_three _ c.if-job-lt6.false c.if-job-ne87.false (omega (arith, c.if-wide-ne3.false, c.wide-2.ensures.value, c.wide.ensures.value)))
+    high_none _ _ _ (c.type_inv.job 4).fits c.if-flags-ne0.true ∙ sym (head_three _ c.if-job-lt6.false c.if-job-ne87.false (omega (arith, c.if-wide-ne3.false, c.wide-2.ensures.value, c.wide.ensures.value)))
 
 pub returns : goal.returns
 returns c =
-    good_setup _ _ _ (c.shared_slice_known-5-1.given 4).fits c.if-flags-ne0.false ∙ sym (head_three _ c.if-job-lt6.false c.if-job-ne87.false (omega (arith, c.if-wide-ne3.false, c.wide-2.ensures.value, c.wide.ensures.value)))
+    good_setup _ _ _ (c.type_inv.job 4).fits c.if-flags-ne0.false ∙ sym (head_three _ c.if-job-lt6.false c.if-job-ne87.false (omega (arith, c.if-wide-ne3.false, c.wide-2.ensures.value, c.wide.ensures.value)))

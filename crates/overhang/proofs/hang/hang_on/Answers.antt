@@ -8,7 +8,7 @@ use Rattle.overhang.proofs.hang.hang_on.Goals as goal
 
 pub loop-next-init : goal.loop-next-init
 loop-next-init c =
-    turns_start _ _ _ _ _ _ _ _ _ (bytes_known c.args.cells.now (λ i. omega (arith, c.shared_slice_known-1.given i))) (bytes_known c.args.sheet.now (λ i. omega (arith, c.shared_slice_known-2-1.given i))) c.first_slots-ahead.ensures.slots_in c.first_slots-ahead.ensures.begins
+    turns_start _ _ _ _ _ _ _ _ _ (bytes_known c.args.cells.now (λ i. omega (arith, c.type_inv.cells i))) (bytes_known c.args.sheet.now (λ i. omega (arith, c.type_inv.sheet i))) c.first_slots-ahead.ensures.slots_in c.first_slots-ahead.ensures.begins
 
 pub shape_of-out-then-next-gt11529215046068469760 : goal.shape_of-out-then-next-gt11529215046068469760
 shape_of-out-then-next-gt11529215046068469760 c =
@@ -16,7 +16,7 @@ shape_of-out-then-next-gt11529215046068469760 c =
 
 pub returns-then-next-gt11529215046068469760 : goal.returns-then-next-gt11529215046068469760
 returns-then-next-gt11529215046068469760 c =
-    record { count_value = c.loop-next.invariant.count; hangs_all = turns_far _ _ _ _ _ _ _ _ _ _ _ c.loop-next.invariant (bytes_known c.args.sheet.now (λ i. omega (arith, c.shared_slice_known-2-1.given i))) (omega (arith, c.well_formed.1.1.1.1.0.1)) c.if-next-gt11529215046068469760.true }
+    record { count_value = c.loop-next.invariant.count; hangs_all = turns_far _ _ _ _ _ _ _ _ _ _ _ c.loop-next.invariant (bytes_known c.args.sheet.now (λ i. omega (arith, c.type_inv.sheet i))) (omega (arith, c.well_formed.1.1.1.1.0.1)) c.if-next-gt11529215046068469760.true }
 
 pub next_slot-slot-requires : goal.next_slot-slot-requires
 next_slot-slot-requires c =

@@ -12,4 +12,4 @@ returns-then-letter-eq76 c =
 
 pub returns : goal.returns
 returns c =
-    record { line_in = c.put_stretched.ensures.line_in; puts_filled = filled_border _ _ _ _ _ _ _ _ c.if-letter-eq76.false (bytes_known c.args.content.now (λ i. omega (arith, c.shared_slice_known-1.given i))) c.put_stretched.ensures.puts_border }
+    record { line_in = c.put_stretched.ensures.line_in; puts_filled = filled_border _ _ _ _ _ _ _ _ c.if-letter-eq76.false (bytes_known c.args.content.now (λ i. omega (arith, c.type_inv.content i))) c.put_stretched.ensures.puts_border }

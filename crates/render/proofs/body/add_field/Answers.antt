@@ -30,7 +30,7 @@ returns-then-content-gt2 c =
 pub add_text-requires : goal.add_text-requires
 add_text-requires c =
     record { counts_within_units = c.requires.counts_within_units; run_small = (
-        run_small _ c.args.content.now c.run_of-run.ensures c.if-content-gt2.false (c.shared_slice_known-4-1.given 1).fits (c.shared_slice_known-5-1.given 2).fits,
+        run_small _ c.args.content.now c.run_of-run.ensures c.if-content-gt2.false (c.type_inv.content 1).fits (c.type_inv.content 2).fits,
         omega (arith, text_bytes_lem c.args.letter c.args.content.now c.if-letter-ne84.false c.if-content-lt3.false c.if-content-gt2.false, c.requires.content_bound),
       ) }
 

@@ -16,7 +16,7 @@ pub returns-then-names-gt65535 : goal.returns-then-names-gt65535
 returns-then-names-gt65535 c =
     record { one_line_more = c.too_long.ensures.0; adds_full_line = names_counted c.args.out.now c.args.lines c.args.names.now c.args.options c.args.cells.now c.args.sheet.now c.args.at.now c.args.end.now c.args.width.now c.args.to.now c.args.hung.now
           c.args.collapse c.args.n c.args.more c.args.rest c.args.i c.args.marks.now _
-          (bytes_known c.args.names.now (λ i. omega (arith, c.shared_slice_known-1.given i))) c.if-names-gt65535.true
+          (bytes_known c.args.names.now (λ i. omega (arith, c.type_inv.names i))) c.if-names-gt65535.true
           c.too_long.ensures.0.count c.too_long.ensures.1 }
 
 pub begin_line-begun-requires : goal.begin_line-begun-requires

@@ -17,7 +17,7 @@ add_marked-requires c =
 
 pub returns-then-seat : goal.returns-then-seat
 returns-then-seat c =
-    record { marked_in = c.add_marked.ensures.marked_in; adds_found = found_added _ _ c.args.options _ _ c.args.seat c.args.collapse c.args.i c.args.marks.now c.args.k _ _ _ c.args.sheet.now (sym (ap (source c.args.cells.now c.args.sheet.now) c.if-seat.true)) (bytes_known c.args.sheet.now (λ i. omega (arith, c.shared_slice_known-2-1.given i))) c.add_marked.ensures.adds_marked }
+    record { marked_in = c.add_marked.ensures.marked_in; adds_found = found_added _ _ c.args.options _ _ c.args.seat c.args.collapse c.args.i c.args.marks.now c.args.k _ _ _ c.args.sheet.now (sym (ap (source c.args.cells.now c.args.sheet.now) c.if-seat.true)) (bytes_known c.args.sheet.now (λ i. omega (arith, c.type_inv.sheet i))) c.add_marked.ensures.adds_marked }
 
 pub slice_bounds-add_marked-end-2 : goal.slice_bounds-add_marked-end-2
 slice_bounds-add_marked-end-2 c =
@@ -29,4 +29,4 @@ add_marked-requires-2 c =
 
 pub returns : goal.returns
 returns c =
-    record { marked_in = c.add_marked-2.ensures.marked_in; adds_found = found_added _ _ c.args.options _ _ c.args.seat c.args.collapse c.args.i c.args.marks.now c.args.k _ _ _ c.args.cells.now (sym (ap (source c.args.cells.now c.args.sheet.now) c.if-seat.false)) (bytes_known c.args.cells.now (λ i. omega (arith, c.shared_slice_known-1.given i))) c.add_marked-2.ensures.adds_marked }
+    record { marked_in = c.add_marked-2.ensures.marked_in; adds_found = found_added _ _ c.args.options _ _ c.args.seat c.args.collapse c.args.i c.args.marks.now c.args.k _ _ _ c.args.cells.now (sym (ap (source c.args.cells.now c.args.sheet.now) c.if-seat.false)) (bytes_known c.args.cells.now (λ i. omega (arith, c.type_inv.cells i))) c.add_marked-2.ensures.adds_marked }
