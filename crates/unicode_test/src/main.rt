@@ -12,12 +12,19 @@ mod print;
 mod strings;
 mod well_formed;
 
-fn main() {
-    let mut text = io::large_buffer();
-    let n = io::read_full(0, &mut text);
-    let differing = points::compare(&text[..n]);
-    let unread = encoding::compare();
-    let disputed = strings::compare();
-    let some = std::num::wrapping_add_u32(differing, unread);
-    print::line(b"differences: ", std::num::wrapping_add_u32(some, disputed));
+use input::read_full;
+use std::io;
+
+fn main(rt: HostRuntime) -> io::Result<()> {
+    let mut text = [0u8; 65536];
+    let n = read_full(&mut rt.stdin(), &mut text)?;
+    let out = rt.stdout();
+    let differing = points::compare(&out, &text[..n])?;
+    let unread = encoding::compare(&out)?;
+    let disputed = strings::compare(&out)?;
+    print::line(
+        &out,
+        "differences: ",
+        differing.wrapping_add(unread).wrapping_add(disputed),
+    )
 }

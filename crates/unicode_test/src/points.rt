@@ -2,6 +2,8 @@
 use crate::count::plus;
 use crate::{data, print};
 use characters::columns::Columns;
+use std::io;
+use std::io::Stdout;
 
 // What was seen of the code points so far.
 #[derive(Clone, Copy)]
@@ -87,21 +89,21 @@ fn white_agrees(code: u32, white: bool) -> bool {
 }
 
 // White space that is off the list is written and is no difference: document 01 leaves it out.
-fn off_list(code: u32, white: bool) -> bool {
+fn off_list(out: &Stdout, code: u32, white: bool) -> io::Result<bool> {
     if white {
-        print::code_line(b"white space left out: U+", code);
+        print::code_line(out, "white space left out: U+", code)?;
     }
-    white
+    Ok(white)
 }
 
 // One code point more. What is off the list must be no white space to the crate.
-fn count(s: Seen, code: u32, class: u32) -> Seen {
+fn count(out: &Stdout, s: Seen, code: u32, class: u32) -> io::Result<Seen> {
     let got = number_of(characters::columns::columns_of(code));
     let listed = got != OFF_LIST;
     let white = listed && has(class, data::WHITE);
-    let off = !listed && off_list(code, has(class, data::WHITE));
+    let off = !listed && off_list(out, code, has(class, data::WHITE))?;
     let agree = columns_agree(code, class, got) && white_agrees(code, white);
-    Seen {
+    Ok(Seen {
         listed: plus(s.listed, listed),
         controls: plus(s.controls, got == CONTROL),
         zero: plus(s.zero, got == 0),
@@ -110,7 +112,7 @@ fn count(s: Seen, code: u32, class: u32) -> Seen {
         white: plus(s.white, white),
         white_off: plus(s.white_off, off),
         differences: plus(s.differences, !agree),
-    }
+    })
 }
 
 fn none() -> Seen {
@@ -126,28 +128,28 @@ fn none() -> Seen {
     }
 }
 
-fn report(s: Seen) {
-    print::line(b"on the list: ", s.listed);
-    print::line(b"controls: ", s.controls);
-    print::line(b"with 0 columns: ", s.zero);
-    print::line(b"with 1 column: ", s.one);
-    print::line(b"with 2 columns: ", s.two);
-    print::line(b"white space on the list: ", s.white);
-    print::line(b"white space off the list: ", s.white_off);
+fn report(out: &Stdout, s: Seen) -> io::Result<()> {
+    print::line(out, "on the list: ", s.listed)?;
+    print::line(out, "controls: ", s.controls)?;
+    print::line(out, "with 0 columns: ", s.zero)?;
+    print::line(out, "with 1 column: ", s.one)?;
+    print::line(out, "with 2 columns: ", s.two)?;
+    print::line(out, "white space on the list: ", s.white)?;
+    print::line(out, "white space off the list: ", s.white_off)
 }
 
 // Walks all code points, writes the counts and answers the number of differences.
-pub fn compare(text: &[u8]) -> u32 {
+pub fn compare(out: &Stdout, text: &[u8]) -> io::Result<u32> {
     let mut reading = data::start(text);
     let mut seen = none();
     let mut code: u32 = 0;
     while code < data::END {
         reading = data::at_point(reading, text, code);
-        seen = count(seen, code, reading.class);
+        seen = count(out, seen, code, reading.class)?;
         code += 1;
     }
-    print::line(b"runs of the data: ", reading.runs);
-    print::line(b"code points: ", code);
-    report(seen);
-    seen.differences
+    print::line(out, "runs of the data: ", reading.runs)?;
+    print::line(out, "code points: ", code)?;
+    report(out, seen)?;
+    Ok(seen.differences)
 }
