@@ -10,7 +10,7 @@ use native.Mathlib.Omega.{arith}
 use borrow.Author.Tests.{eq-eqb, ne_eqb, lt-ltb, ltb-true}
 use lib.Dec.{ltb, leb, leb→le}
 use lib.ListN.{length}
-use Rattle.characters.specs.Columns.{columns_of, width_of, or_zero, cols, str_width}
+use Rattle.characters.specs.Columns.{columns_of, width_of, cols, str_width}
 use Rattle.characters.specs.Whitespace.{always_takes_space}
 use Rattle.characters.specs.Utf8.{utf8, text_bytes, Scalar}
 use Rattle.characters.proofs.Tests.{by_if, below}
@@ -21,7 +21,7 @@ use Rattle.block.specs.TrimsLeaveText.{TrimsLeaveText}
 use Rattle.block.proofs.NonSpaces.{trims_blanks, trims_keep, trims_element, text_name}
 use Rattle.block.proofs.Width.{columns_append}
 use Rattle.lines.specs.Items.{Item, item, mark_tag, name_tag, items}
-use Rattle.lines.specs.Bridge.{num, tagged, enc, Valid, text}
+use Rattle.lines.specs.Bridge.{num, tagged, enc, text}
 use Rattle.lines.proofs.Encoded.{enc_append, enc_text, valid_append, valid_text}
 use Rattle.lines.proofs.HardWrap.{columns_text}
 use Rattle.hard_wrap.specs.Hold.{Holds}

@@ -4,23 +4,21 @@
 use mathlib.Core.Path.{◌≡◌, refl, sym, ap, subst, ◌∙◌}
 use mathlib.Core.Bool.{Bool, true, false, ◌&&◌, and-false}
 use mathlib.Core.Logic.{◌⊎◌, inl, inr, ⊎_elim}
-use mathlib.Core.Option.{Option, none, some, map}
+use mathlib.Core.Option.{Option, some}
 use mathlib.Core.List.{List, [], ◌∷◌, ◌++◌, append-nil, append_assoc}
 use Prim.Native.Nat.{ℕ, ◌+◌, ◌*◌, ◌<◌, ◌≤◌}
 use native.Mathlib.Omega.{arith}
 use borrow.Author.Tests.{le-ltb, eqb-false}
-use lib.Dec.{ltb, eqb}
+use lib.Dec.{ltb}
 use lib.ListN.{length, take, drop}
 use lib.Seq.{take-append_seam, length-take-le}
-use Rattle.characters.specs.If.{if◌then◌else◌}
-use Rattle.characters.specs.Columns.{cols, width_of, str_width}
+use Rattle.characters.specs.Columns.{cols, str_width}
 use Rattle.characters.specs.Utf8.{text_bytes, chars}
-use Rattle.characters.specs.Whitespace.{is_wordbreak_point}
 use Rattle.characters.specs.Plain.{is_plain, AllPlain, PlainRun}
 use Rattle.characters.proofs.Tests.{by_if}
 use Rattle.characters.proofs.Tables.{plain_positive, plain_width, plain_takes_space, plain_no_break, plain_not_zwsp}
 use Rattle.characters.proofs.Runs.{plain_scalars, run_chars, some_append}
-use Rattle.fields.specs.Job.{Mode, normal, pre, pre_wrap}
+use Rattle.fields.specs.Job.{Mode}
 use Rattle.fields.specs.declared.job.Setup.{Setup}
 use Rattle.block.specs.Tag.{tag, is_pre}
 use Rattle.block.specs.Result.{good}
@@ -28,7 +26,7 @@ use Rattle.block.specs.Flat.{char, Line, columns, flat_push_char, Block, with_wo
 use Rattle.block.specs.Flat as flat
 use Rattle.block.proofs.NonSpaces.{TrimsLeaveTextWalk, trims_word_char}
 use Rattle.block.proofs.Width.{columns_append}
-use Rattle.lines.specs.Bridge.{mode_no, num, text}
+use Rattle.lines.specs.Bridge.{text}
 use Rattle.hard_wrap.specs.Hold.{setup}
 use Rattle.hard_wrap.specs.declared.line.Frame.{Frame}
 use Rattle.flush_word.specs.declared.state.State.{State}

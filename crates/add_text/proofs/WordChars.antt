@@ -21,7 +21,7 @@ use Rattle.block.specs.Tag.{tag, is_pre}
 use Rattle.block.specs.Flat.{Block, columns, flat_push_char, with_word, with_wrapped, walk, keep_blank, add_word_char}
 use Rattle.block.specs.Flat as flat
 use Rattle.block.proofs.NonSpaces.{TrimsLeaveTextWalk, trims_wrapped, trims_word_char}
-use Rattle.lines.specs.Bridge.{mode_no, num}
+use Rattle.lines.specs.Bridge.{mode_no}
 use Rattle.hard_wrap.specs.Hold.{setup}
 use Rattle.hard_wrap.specs.declared.line.Frame.{Frame}
 use Rattle.flush_word.specs.Keep.{Keeps, CountsWithinUnits}

@@ -1,11 +1,11 @@
 -- The walk over a text's characters: the state with the annotation in use, and what each function does to it.
 -- Assumes nothing: these are definitions.
-use Rattle.std.specs.Prelude.{◌≡◌, Bool, true, false, List, [], ◌∷◌, ◌++◌, ℕ, ◌+◌, ◌*◌, ◌<◌, ◌≤◌, length, drop}
-use Rattle.std.proofs.Math.Option.{Option, none, some}
+use Rattle.std.specs.Prelude.{◌≡◌, true, false, List, ℕ, ◌+◌, ◌<◌, ◌≤◌}
+use Rattle.std.proofs.Math.Option.{Option, some}
 use Rattle.characters.specs.Columns.{width_of}
 use Rattle.characters.specs.Whitespace.{always_takes_space}
 use Rattle.characters.specs.Utf8.{utf8, Scalar, chars}
-use Rattle.fields.specs.Job.{Mode, normal, pre, pre_wrap}
+use Rattle.fields.specs.Job.{Mode, normal}
 use Rattle.block.specs.Result.{Result, good, too_narrow, ◌>>=◌}
 use Rattle.block.specs.Flat.{Block, walk, flat_flush_word, newline, tab, keep_blank, collapse, add_blank, add_word_char, flat_add_char, break_word, step, flat_add_text}
 use Rattle.block.specs.Flat as flat

@@ -1,6 +1,6 @@
 -- Laws of refusal 10 as the code tells it: of one line, of the first lines of a list, of a guest, of cells.
 -- Assumes nothing.
-use mathlib.Core.Path.{◌≡◌, refl, sym, ap, ap₂, subst, ◌∙◌}
+use mathlib.Core.Path.{◌≡◌, refl, sym, ap, ◌∙◌}
 use mathlib.Core.Bool.{Bool, true, false, ◌||◌}
 use mathlib.Core.Option.{Option, none, some, map}
 use mathlib.Core.List.{List, [], ◌∷◌}
@@ -10,20 +10,18 @@ use lib.Dec.{leb, eqb}
 use lib.ListN.{length, take, drop, get_or, length-drop}
 use lib.Seq.{take-nil, length-take-le}
 use borrow.Author.Tests.{ne_eqb}
-use Rattle.characters.specs.If.{if◌then◌else◌}
 use Rattle.characters.proofs.Tests.{by_if}
-use Rattle.fields.specs.Field.{Raw, whole, broken, raws_f, raws, read_all, all, part}
+use Rattle.fields.specs.Field.{Raw, whole, broken, raws_f, raws, read_all, all}
 use Rattle.fields.specs.Sheet.{Piece, read_piece, is_segment, read_prefix}
 use Rattle.fields.proofs.Fields.{FieldIs}
 use Rattle.fields.proofs.Readings.{read_first, read_none, read_size}
 use Rattle.rows.proofs.Reading.{OnSome, some_of}
-use Rattle.fields.specs.Spans.{Hole, RenderLine, text, border, Cell, read_border, read_line, read_plain_cell}
+use Rattle.fields.specs.Spans.{RenderLine, text, border, Cell, read_border, read_line, read_plain_cell}
 use Rattle.rows.specs.Columns.{overlaps}
-use Rattle.fields.specs.Places.{HolesFrom}
-use Rattle.places.specs.Border.{PartsIn, BorderAt, FindsParts}
+use Rattle.places.specs.Border.{PartsIn, FindsParts}
 use Rattle.places.specs.declared.border.Parts.{Parts}
 use Rattle.holes.specs.Overlap.{FindsOverlap}
-use Rattle.append_subrender.specs.Misfit.{overlapping, any_overlapping, guest_misfit, cells_misfit, TellsLine, TellsLines, TellsGuest, TellsCells}
+use Rattle.append_subrender.specs.Misfit.{overlapping, any_overlapping, cells_misfit, TellsLine, TellsLines, TellsGuest, TellsCells}
 use Rattle.append_subrender.proofs.Pairing.{guest_none, guest_all, guest_first, cell_whole, cells_misfit_on, cells_misfit_none}
 use Rattle.append_subrender.proofs.Adding.{not_text, no_lines_read}
 use Rattle.append_subrender.proofs.Stacking.{cell_lines_lem, no_width_lem, no_cells_read, width_first}

@@ -3,12 +3,12 @@
 -- Assumes nothing: these are definitions.
 use Rattle.std.specs.Prelude.{◌≡◌, Bool, true, false, ◌||◌, List, [], ◌∷◌, ◌++◌, ℕ, take}
 use Rattle.std.proofs.Math.Option.{some}
-use Rattle.fields.specs.Field.{whole, raws, read_all, all}
+use Rattle.fields.specs.Field.{whole, raws, read_all}
 use Rattle.fields.specs.Sheet.{read_prefix}
 use Rattle.fields.specs.TaggedLine.{push_str}
 use Rattle.rows.specs.SubRenderer.{in_front, later, between}
 use Rattle.rows.specs.declared.RenderOptions.{RenderOptions}
-use Rattle.fields.specs.Spans.{RenderLine, text, border, Cell, read_line, read_plain_cell, readable_line, readable_cell}
+use Rattle.fields.specs.Spans.{RenderLine, text, border, Cell, read_line, read_plain_cell}
 use Rattle.rows.specs.Columns.{overlaps, holed_text}
 
 -- ---- the test

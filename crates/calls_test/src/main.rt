@@ -373,11 +373,18 @@ fn replay_all(
     })
 }
 
+// Writes a line of a word and a number.
+fn print(out: &Stdout, word: &[u8], n: u64) -> io::Result<()> {
+    out.write_all(word)?;
+    println!(out; "{n}")
+}
+
 // Writes how often a number came, if it came, behind a word.
 fn print_count(out: &Stdout, word: &[u8], number: u64, n: u64) -> io::Result<()> {
     if n != 0 {
         out.write_all(word)?;
-        println!(out; "{number}: {n}")?;
+        print!(out; "{number}")?;
+        print(out, b": ", n)?;
     }
     Ok(())
 }
@@ -410,11 +417,9 @@ fn main(rt: HostRuntime) -> io::Result<()> {
         &mut kinds,
         &mut numbers,
     )?;
-    let records = tally.records;
-    let differences = tally.differences;
     let out = rt.stdout();
-    println!(out; "records: {records}")?;
+    print(&out, b"records: ", tally.records)?;
     print_counts(&out, b"kind ", &kinds)?;
     print_counts(&out, b"number ", &numbers)?;
-    println!(out; "differences: {differences}")
+    print(&out, b"differences: ", tally.differences)
 }

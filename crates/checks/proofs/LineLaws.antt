@@ -10,14 +10,14 @@ use lib.Dec.{leb, eqb}
 use lib.ListN.{length, take, drop, get_or}
 use borrow.Author.Tests.{le-leb, lt-leb, ne_eqb}
 use Rattle.characters.specs.If.{if◌then◌else◌}
-use Rattle.fields.specs.Field.{whole, broken, raws, read_all, all}
+use Rattle.fields.specs.Field.{whole, broken, raws, read_all}
 use Rattle.fields.specs.First.{first_of, first_over, refusal_of, unless}
 use Rattle.fields.specs.Sheet.{read_piece}
 use Rattle.fields.specs.Walk.{piece_refusal}
 use Rattle.fields.proofs.First.{first_zero, one_first}
 use Rattle.fields.proofs.Sheets.{pieces_all, mapped, two_after}
 use Rattle.fields.proofs.Texts.{rest}
-use Rattle.fields.specs.Spans.{RenderLine, text, border, hanging, cell, read_line, is_span, read_hanging, read_cell, read_plain_cell, readable_line, readable_lines}
+use Rattle.fields.specs.Spans.{RenderLine, text, hanging, cell, read_line, is_span, read_hanging, read_cell, read_plain_cell, readable_line, readable_lines}
 use Rattle.fields.specs.SpanRefusals.{line_refusal, lines_refusal, judged_hanging, hanging_refusal, judged_cell, cell_refusal, plain_cell_refusal}
 use Rattle.rows.proofs.Refusing.{lines_all}
 use Rattle.checks.specs.Walk.{body_refusal, refusal_in}

@@ -11,7 +11,7 @@ use fields::job::job_refusal;
 use fields::prefixes::prefixes_refusal;
 use input::read_full;
 use std::io;
-use std::io::Stdin;
+use std::io::{Stdin, Stdout};
 
 // What a record starts with; the file can also end here, or in the middle of it.
 #[derive(Clone, Copy)]
@@ -124,11 +124,16 @@ fn replay_all(from: &mut Stdin, space: &mut [u8]) -> io::Result<Tally> {
     })
 }
 
+// Writes a line of a word and a number.
+fn print(out: &Stdout, word: &[u8], n: u64) -> io::Result<()> {
+    out.write_all(word)?;
+    println!(out; "{n}")
+}
+
 fn main(rt: HostRuntime) -> io::Result<()> {
     let mut space = [0u8; 262144];
     let tally = replay_all(&mut rt.stdin(), &mut space)?;
-    let records = tally.records;
-    let differences = tally.differences;
-    println!(rt; "inputs checked: {records}")?;
-    println!(rt; "differences: {differences}")
+    let out = rt.stdout();
+    print(&out, b"inputs checked: ", tally.records)?;
+    print(&out, b"differences: ", tally.differences)
 }

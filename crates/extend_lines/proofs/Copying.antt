@@ -6,11 +6,9 @@ use mathlib.Core.Option.{Option, none, some, map, some-injective}
 use mathlib.Core.List.{List, [], ◌∷◌, ◌++◌, append_assoc, append-nil}
 use Prim.Native.Nat.{ℕ, suc, ◌+◌, ◌-◌, ◌≤◌, ◌<◌}
 use native.Mathlib.Omega.{arith}
-use borrow.Author.Tests.{eqb-true, ne_eqb, le-leb}
-use lib.Dec.{eqb}
+use borrow.Author.Tests.{le-leb}
 use lib.ListN.{length, take, drop}
-use Rattle.characters.specs.If.{if◌then◌else◌}
-use Rattle.fields.specs.Field.{head, field, whole, broken, raws, both, read_all, all, Short}
+use Rattle.fields.specs.Field.{head, field, whole, broken, raws, both, read_all, Short}
 use Rattle.fields.specs.Sheet.{Piece, read_piece, pieces_bytes}
 use Rattle.fields.specs.Store.{Wrote}
 use Rattle.fields.specs.declared.field.Field.{Field}

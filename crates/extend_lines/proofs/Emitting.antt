@@ -8,17 +8,17 @@ use mathlib.Core.List.{List, [], ◌∷◌, ◌++◌, append_assoc, append-nil}
 use Prim.Native.Nat.{ℕ, ◌+◌, ◌-◌, ◌*◌, ◌%◌, ◌≤◌, ◌<◌}
 use native.Mathlib.Nat.{mod-eq_of_lt}
 use native.Mathlib.Omega.{arith}
-use borrow.Author.Tests.{leb-true, leb-false, le-leb, lt-leb, lt-ltb, le-ltb, not-false}
+use borrow.Author.Tests.{leb-true, leb-false, lt-ltb, le-ltb, not-false}
 use lib.Dec.{leb, ltb}
 use lib.ListN.{length, take, drop, length-append, take-append-drop}
 use lib.Seq.{sets, length-sets}
 use Rattle.characters.proofs.Tests.{and_left, and_right, and_assoc}
-use Rattle.fields.specs.Field.{head, two, field, raws, read_all, all}
-use Rattle.fields.specs.Sheet.{Piece, pieces_bytes}
+use Rattle.fields.specs.Field.{head, field, all}
+use Rattle.fields.specs.Sheet.{pieces_bytes}
 use Rattle.fields.specs.Store.{Wrote}
 use Rattle.fields.specs.Answer.{Answer, refused, in_store, give, Stands}
 use Rattle.fields.specs.Widths.{width}
-use Rattle.fields.proofs.Sets.{sets_append, sets_before, sets_fits, wrote_then, wrote_before}
+use Rattle.fields.proofs.Sets.{sets_append, wrote_then, wrote_before}
 use Rattle.borders.specs.BorderHoriz.{stretch_to, to_string, drawn, into_tagged_from, border_into_tagged_line}
 use Rattle.borders.proofs.Drawing.{drawn_string}
 use Rattle.rows.specs.declared.RenderOptions.{RenderOptions}
@@ -26,7 +26,7 @@ use Rattle.fields.specs.TaggedLine.{join, push_str, pad_to}
 use Rattle.rows.proofs.Reading.{Bytes, bytes_take, bytes_drop}
 use Rattle.fields.specs.Spans.{RenderLine, text, Hanging, sheet_of, content, letter, lines_bytes, names_bytes, overhang_bytes, body_bytes, sheet_bytes}
 use Rattle.rows.specs.SubRenderer.{padded, plain_border}
-use Rattle.rows.specs.Answer.{fits, fits_hanging, finished}
+use Rattle.rows.specs.Answer.{fits, finished}
 use Rattle.tagged_line.specs.Held.{Held, Within, LineGrown, new_line, Pads, Draws}
 use Rattle.tagged_line.specs.declared.line.Line.{Line}
 use Rattle.extend_lines.specs.Emitted.{all_fit, Emitted, InBounds, LineBegun, no_lines, FinishesLine, AddsTextLine, PutsBorder, AddsBorder, HandsOn}

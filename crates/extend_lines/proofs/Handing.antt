@@ -1,23 +1,20 @@
 -- The laws of V fields that are handed on: those that are read have the bytes that they were read from, and none is too long.
 -- Assumes nothing.
 use mathlib.Core.Path.{◌≡◌, refl, sym, ap, ap₂, ◌∙◌}
-use mathlib.Core.Bool.{Bool, true, false, not, ◌&&◌}
-use mathlib.Core.Option.{Option, none, some, map}
-use mathlib.Core.List.{List, [], ◌∷◌, ◌++◌, append-nil}
+use mathlib.Core.Bool.{true}
+use mathlib.Core.Option.{Option, none, some}
+use mathlib.Core.List.{List, [], ◌∷◌, ◌++◌}
 use Prim.Native.Nat.{ℕ, zero, suc, ◌+◌, ◌*◌, ◌≤◌, ◌<◌}
 use native.Mathlib.Omega.{arith}
 use borrow.Author.Tests.{eqb-true, leb-true, le-leb}
 use lib.Dec.{leb, eqb}
-use lib.ListN.{length, take, drop, get_or, length-append, length-drop}
-use lib.Seq.{sets, length-take-le}
-use Rattle.characters.specs.If.{if◌then◌else◌}
-use Rattle.characters.proofs.Tests.{by_if, and_left, and_right}
+use lib.ListN.{length, drop, get_or}
+use lib.Seq.{length-take-le}
+use Rattle.characters.proofs.Tests.{by_if}
 use Rattle.fields.specs.Field.{two, field, Raw, whole, broken, raws_f, raws, both, read_all, all}
-use Rattle.fields.specs.Store.{Wrote}
 use Rattle.fields.proofs.Back.{Every}
-use Rattle.fields.proofs.Sets.{sets_append}
 use Rattle.block.proofs.Bounds.{length_field}
-use Rattle.rows.proofs.Reading.{OnSome, some_of, Bytes, bytes_take, bytes_drop, OfBytes, two_back, splits, Same, each, SameAll, same_all, from_same, on_map}
+use Rattle.rows.proofs.Reading.{OnSome, some_of, Bytes, bytes_drop, OfBytes, two_back, splits, Same, each, SameAll, same_all, from_same, on_map}
 use Rattle.fields.specs.Spans.{RenderLine, Hanging, hanging, read_line, is_span, read_hanging_content, read_hanging, lines_bytes, hanging_content, overhang_bytes}
 use Rattle.rows.specs.Answer.{fits_hanging}
 use Rattle.rows.proofs.Same.{lines_same, hanging_bytes}

@@ -2,27 +2,26 @@
 -- that takes more than 65,535 bytes of them is too long.
 -- Assumes nothing.
 use mathlib.Core.Path.{◌≡◌, refl, sym, ap, ◌∙◌}
-use mathlib.Core.Bool.{Bool, false}
+use mathlib.Core.Bool.{false}
 use mathlib.Core.Option.{some}
 use mathlib.Core.List.{List, [], ◌∷◌, ◌++◌, map}
-use Prim.Native.Nat.{ℕ, ◌+◌, ◌≤◌, ◌<◌}
+use Prim.Native.Nat.{ℕ, ◌+◌, ◌<◌}
 use native.Mathlib.Omega.{arith}
 use lib.ListN.{length}
 use lib.Seq.{sets}
 use Rattle.fields.specs.Field.{field, raws, read_all}
 use Rattle.fields.specs.Sheet.{Piece, str, fragment, pieces_bytes}
-use Rattle.fields.specs.Spans.{RenderLine, text, read_name, names_bytes}
+use Rattle.fields.specs.Spans.{text, read_name, names_bytes}
 use Rattle.fields.specs.Widths.{width}
 use Rattle.fields.specs.TaggedLine.{WellFormedPiece, join, consume}
 use Rattle.fields.specs.Store.{Wrote}
 use Rattle.fields.proofs.Back.{Every}
 use Rattle.rows.specs.declared.RenderOptions.{RenderOptions}
-use Rattle.rows.specs.SubRenderer.{in_names, with_names, padded}
+use Rattle.rows.specs.SubRenderer.{with_names, padded}
 use Rattle.rows.specs.Answer.{fits}
 use Rattle.rows.proofs.Reading.{Bytes, some_of}
 use Rattle.rows.proofs.Same.{names_same}
 use Rattle.rows.proofs.Front.{names_first}
-use Rattle.tagged_line.specs.Held.{Held}
 use Rattle.tagged_line.specs.declared.line.Line.{Line}
 use Rattle.extend_lines.specs.Emitted.{BeginsLine}
 use Rattle.extend_lines.proofs.Growing.{size_of, grow_consume, long_unfit}

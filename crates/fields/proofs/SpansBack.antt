@@ -16,7 +16,7 @@ use Rattle.fields.specs.Field.{two, field, Raw, whole, raws, read_all, all}
 use Rattle.fields.specs.Sheet.{Piece, str, fragment, read_piece, piece_bytes}
 use Rattle.fields.proofs.Fields.{raws_nil, raws_field}
 use Rattle.fields.proofs.Back.{Every, GoodPiece, pieces_back, segments_back}
-use Rattle.fields.specs.Spans.{Hole, hole, RenderLine, text, border, Hanging, hanging, Sheet, RawHole, punched, raw_holes_f, raw_holes, read_hole, read_holes, ends_within, read_holed, read_line, is_span, read_hanging, is_hanging, before_hanging, from_hanging, read_name, is_name, before_names, from_names, read_headed, read_sheet, holes_bytes, content, letter, lines_bytes, hanging_content, overhang_bytes, names_bytes, body_bytes, sheet_bytes, HeadCounts}
+use Rattle.fields.specs.Spans.{Hole, hole, RenderLine, text, border, Hanging, Sheet, RawHole, punched, raw_holes_f, raw_holes, read_hole, read_holes, ends_within, read_holed, read_line, is_span, read_hanging, is_hanging, before_hanging, from_hanging, read_name, is_name, before_names, from_names, read_headed, read_sheet, holes_bytes, content, letter, lines_bytes, hanging_content, overhang_bytes, names_bytes, body_bytes, sheet_bytes, HeadCounts}
 
 -- ---- holes
 

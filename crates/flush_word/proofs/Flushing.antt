@@ -16,7 +16,7 @@ use Rattle.block.specs.TrimsLeaveText.{TrimsLeaveText}
 use Rattle.block.proofs.NonSpaces.{trims_put_wrapped}
 use Rattle.block.proofs.Width.{columns_append, columns_spaces}
 use Rattle.lines.specs.Items.{item, items}
-use Rattle.lines.specs.Bridge.{num, mode_no, enc, Valid}
+use Rattle.lines.specs.Bridge.{mode_no, enc, Valid}
 use Rattle.lines.proofs.Buffers.{items_none}
 use Rattle.lines.proofs.Encoded.{enc_append, enc_spaces, valid_append, valid_spaces}
 use Rattle.hard_wrap.specs.Hold.{setup, Holds}

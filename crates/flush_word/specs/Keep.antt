@@ -1,6 +1,6 @@
 -- What the state and the lent buffers hold of the flat block, the numbers that keep them in bounds, and the step of each function.
 -- Assumes nothing: these are definitions.
-use Rattle.std.specs.Prelude.{◌≡◌, Bool, true, false, List, [], ℕ, ◌+◌, ◌-◌, ◌*◌, ◌<◌, ◌≤◌, min, length, drop}
+use Rattle.std.specs.Prelude.{◌≡◌, Bool, true, false, List, ℕ, ◌+◌, ◌-◌, ◌*◌, ◌<◌, ◌≤◌, min, length, drop}
 use Rattle.std.proofs.Math.Option.{Option, none, some}
 use Rattle.fields.specs.declared.job.Setup.{Setup}
 use Rattle.fields.specs.Job.{pre}

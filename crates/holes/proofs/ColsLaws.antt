@@ -1,18 +1,16 @@
 -- The columns of a hole's piece.
 -- Assumes nothing.
-use mathlib.Core.Path.{◌≡◌, refl, sym, ap, ◌∙◌}
-use mathlib.Core.Bool.{Bool, true, false}
-use mathlib.Core.Option.{Option, none, some}
+use mathlib.Core.Path.{◌≡◌, refl, ap, ◌∙◌}
+use mathlib.Core.Option.{none, some}
 use mathlib.Core.List.{List, [], ◌∷◌}
-use Prim.Native.Nat.{ℕ, ◌+◌, ◌-◌, ◌≤◌, ◌<◌}
+use Prim.Native.Nat.{ℕ, ◌-◌, ◌<◌}
 use native.Mathlib.Omega.{arith}
 use lib.Dec.{eqb}
 use lib.ListN.{length, take, drop}
 use borrow.Author.Tests.{eq-eqb, ne_eqb}
 use Rattle.characters.specs.If.{if◌then◌else◌}
 use Rattle.characters.proofs.Tests.{by_if}
-use Rattle.fields.specs.Field.{whole}
-use Rattle.fields.specs.Sheet.{Piece, str, fragment, read_str, read_piece}
+use Rattle.fields.specs.Sheet.{Piece, fragment, read_str, read_piece}
 use Rattle.fields.specs.Widths.{text_width, piece_width}
 use Rattle.fields.proofs.Texts.{rest}
 use Rattle.rows.proofs.Reading.{OnSome, some_of}

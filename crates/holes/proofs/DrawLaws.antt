@@ -1,13 +1,13 @@
 -- The walk over a border's segments and holes that draws them on a line.
 -- Assumes nothing.
-use mathlib.Core.Path.{◌≡◌, refl, sym, ap, ap₂, subst, ◌∙◌}
-use mathlib.Core.Bool.{Bool, true, false, not, ◌&&◌, ◌||◌}
+use mathlib.Core.Path.{◌≡◌, refl, sym, ap, ap₂, ◌∙◌}
+use mathlib.Core.Bool.{Bool, true, false, not, ◌&&◌}
 use mathlib.Core.List.{List, [], ◌∷◌, ◌++◌, map}
 use mathlib.Core.Option.{some}
 use Prim.Native.Nat.{ℕ, ◌+◌, ◌-◌, ◌*◌, ◌^◌, ◌≤◌, ◌<◌}
 use native.Mathlib.Omega.{arith}
 use lib.Dec.{leb}
-use lib.ListN.{length, take, drop, get_or, length-drop}
+use lib.ListN.{length, drop, get_or, length-drop}
 use lib.Seq.{take_all}
 use borrow.Author.Tests.{leb-true}
 use Rattle.characters.proofs.Tests.{and_left, and_right, or_left, or_right}
@@ -18,10 +18,9 @@ use Rattle.fields.proofs.Parts.{part_length}
 use Rattle.borders.specs.BorderHoriz.{stretch_to, to_string, as_str, sliceable, up_to_hole, at_hole, into_tagged_from}
 use Rattle.fields.specs.TaggedLine.{push_str, push}
 use Rattle.rows.proofs.Lines.{push_twice}
-use Rattle.fields.specs.Spans.{Hole, hole, ends_within, readable_hole}
+use Rattle.fields.specs.Spans.{Hole, ends_within, readable_hole}
 use Rattle.rows.specs.Columns.{overlaps, holed_text}
-use Rattle.places.specs.Hole.{RawAt, FirstHole}
-use Rattle.places.specs.Border.{BorderAt}
+use Rattle.places.specs.Hole.{RawAt}
 use Rattle.places.specs.declared.hole.HoleAt.TheVariants.{Broken, End}
 use Rattle.places.proofs.HoleLaws.{FoundHole, hole_found, hole_torn, hole_none, hole_field}
 use Rattle.tagged_line.specs.Held.{Within, LineGrown, Held}

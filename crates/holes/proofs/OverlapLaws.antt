@@ -2,20 +2,18 @@
 -- Assumes nothing.
 use mathlib.Core.Path.{◌≡◌, refl, sym, ap, ◌∙◌}
 use mathlib.Core.Bool.{Bool, true, false, not, ◌&&◌, ◌||◌}
-use mathlib.Core.Option.{some}
-use mathlib.Core.List.{List, [], ◌∷◌}
+use mathlib.Core.List.{List, ◌∷◌}
 use Prim.Native.Nat.{ℕ, ◌+◌, ◌≤◌, ◌<◌}
 use native.Mathlib.Omega.{arith}
 use lib.Dec.{leb}
 use lib.ListN.{length}
 use borrow.Author.Tests.{le-leb, lt-leb}
-use Rattle.fields.specs.Field.{whole, part}
-use Rattle.fields.specs.Sheet.{read_piece}
+use Rattle.fields.specs.Field.{part}
 use Rattle.fields.specs.Widths.{piece_width}
 use Rattle.fields.specs.Spans.{Hole}
 use Rattle.fields.specs.Places.{HolesFrom}
 use Rattle.rows.specs.Columns.{overlaps}
-use Rattle.places.specs.Hole.{RawAt, FirstHole}
+use Rattle.places.specs.Hole.{RawAt}
 use Rattle.places.specs.declared.hole.HoleAt.TheVariants.{Broken, End}
 use Rattle.places.proofs.HoleLaws.{FoundHole, hole_found, hole_torn, hole_none}
 use Rattle.holes.specs.Cols.{CountsPiece}

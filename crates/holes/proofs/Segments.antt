@@ -1,20 +1,19 @@
 -- A part of a border that is stretched, and texts pushed one after the other.
 -- Assumes nothing.
-use mathlib.Core.Path.{◌≡◌, refl, sym, ap, ap₂, subst, ◌∙◌}
+use mathlib.Core.Path.{◌≡◌, refl, sym, ap, ◌∙◌}
 use mathlib.Core.Bool.{Bool, true, false}
 use mathlib.Core.Logic.{⊎_elim}
-use mathlib.Core.Option.{Option, none, some}
+use mathlib.Core.Option.{none, some}
 use mathlib.Core.List.{List, [], ◌∷◌, ◌++◌}
 use Prim.Native.Nat.{ℕ, ◌+◌, ◌-◌, ◌≤◌, ◌<◌}
 use native.Mathlib.Omega.{arith}
-use lib.Dec.{ltb, eqb}
-use lib.ListN.{length, take, drop, get_or, replicate, length-append, length-drop, length-replicate, get_or-replicate, get_or-append, get_or-eq_default}
-use lib.Seq.{length-take-le, take_all, ext_get_or, get_or-append-add, get_or-take, get_or-drop}
+use lib.Dec.{eqb}
+use lib.ListN.{length, take, drop, get_or, replicate, length-append, length-replicate, get_or-replicate, get_or-append, get_or-eq_default}
+use lib.Seq.{ext_get_or, get_or-append-add, get_or-take, get_or-drop}
 use borrow.Author.Tests.{eq-eqb, ne_eqb, lt-ltb, le-ltb}
 use Rattle.characters.specs.If.{if◌then◌else◌}
-use Rattle.characters.specs.Utf8.{text_bytes}
 use Rattle.characters.proofs.Tests.{by_if, lt_or_le}
-use Rattle.fields.specs.Field.{Raw, whole, raws, read_all, part, all}
+use Rattle.fields.specs.Field.{raws, read_all, part, all}
 use Rattle.fields.specs.Sheet.{Piece, str, fragment, read_str, read_piece, readable_piece}
 use Rattle.fields.specs.Text.{readable_text}
 use Rattle.fields.specs.Widths.{text_width, piece_width}
@@ -26,7 +25,7 @@ use Rattle.borders.proofs.Drawing.{drawn_string, drawn_nil}
 use Rattle.fields.specs.TaggedLine.{push_str, push, add_piece, add_pieces}
 use Rattle.rows.proofs.Reading.{OnSome, some_of}
 use Rattle.rows.proofs.Lines.{text_width_nil, readable_formed}
-use Rattle.tagged_line.specs.Held.{Held, Pushes, Draws}
+use Rattle.tagged_line.specs.Held.{Pushes, Draws}
 use Rattle.tagged_line.specs.Pieces.{AddsPieces}
 use Rattle.tagged_line.specs.declared.line.Line.{Line}
 use Rattle.holes.specs.Drawing.{DrawsPart, PushesText, shown_piece, PushesPiece}

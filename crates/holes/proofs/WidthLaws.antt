@@ -1,15 +1,14 @@
 -- The columns of a line's pieces, field by field, and of a border with holes, hole by hole.
 -- Assumes nothing.
 use mathlib.Core.Path.{◌≡◌, refl, sym, ap, ◌∙◌}
-use mathlib.Core.Bool.{Bool, true, false, ◌&&◌}
+use mathlib.Core.Bool.{true, false}
 use mathlib.Core.Logic.{⊎_elim}
 use mathlib.Core.Option.{none, some}
 use mathlib.Core.List.{List, [], ◌∷◌, map}
-use Prim.Native.Nat.{ℕ, ◌+◌, ◌-◌, ◌*◌, ◌≤◌, ◌<◌}
+use Prim.Native.Nat.{ℕ, ◌+◌, ◌-◌, ◌*◌, ◌≤◌}
 use native.Mathlib.Omega.{arith}
-use lib.Dec.{leb, ltb}
-use lib.ListN.{length, take, drop, length-drop}
-use borrow.Author.Tests.{leb-true, lt-ltb, le-ltb}
+use lib.ListN.{length, drop, length-drop}
+use borrow.Author.Tests.{lt-ltb, le-ltb}
 use Rattle.characters.specs.Utf8.{chars}
 use Rattle.characters.proofs.Tests.{and_left, and_right, lt_or_le}
 use Rattle.fields.specs.Field.{whole, broken, raws, read_all, part, all}
@@ -19,10 +18,10 @@ use Rattle.fields.proofs.Back.{Every}
 use Rattle.fields.proofs.Fields.{FieldIs}
 use Rattle.fields.proofs.Parts.{part_length}
 use Rattle.fields.proofs.Readings.{read_first, read_none}
-use Rattle.borders.specs.BorderHoriz.{to_string, glyph, drawn, up_to_hole, at_hole, into_tagged_from}
+use Rattle.borders.specs.BorderHoriz.{to_string, glyph, up_to_hole, at_hole, into_tagged_from}
 use Rattle.borders.proofs.Drawing.{drawn_string, drawn_chars}
 use Rattle.fields.specs.Text.{WellFormed}
-use Rattle.fields.specs.TaggedLine.{WellFormedPiece, push_str, push, add_piece}
+use Rattle.fields.specs.TaggedLine.{WellFormedPiece, push, add_piece}
 use Rattle.rows.proofs.Lines.{push_width, push_formed, add_width, add_formed, readable_formed}
 use Rattle.fields.specs.Spans.{Hole, ends_within, readable_hole}
 use Rattle.places.specs.Hole.{RawAt}

@@ -6,12 +6,12 @@ use mathlib.Core.List.{List, [], ◌∷◌, ◌++◌, map, append-nil, append_as
 use mathlib.Core.Logic.{inl}
 use Prim.Native.Nat.{ℕ, zero, suc, ◌%◌, ◌<◌, ◌≤◌}
 use native.Mathlib.Omega.{arith}
-use borrow.Author.Tests.{eq-eqb, ne_eqb, eqb-true}
+use borrow.Author.Tests.{eq-eqb, ne_eqb}
 use lib.Dec.{ltb, eqb}
 use lib.ListN.{length, replicate}
 use Rattle.characters.specs.If.{if◌then◌else◌}
 use Rattle.characters.specs.Utf8.{utf8, text_bytes}
-use Rattle.characters.proofs.Tests.{and_left, and_right, by_if, clash}
+use Rattle.characters.proofs.Tests.{by_if, clash}
 use Rattle.characters.proofs.RoundTrip.{Scalars}
 use Rattle.fields.specs.Field.{field}
 use Rattle.fields.specs.Job.{Mode, normal, pre, pre_wrap}

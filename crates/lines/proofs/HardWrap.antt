@@ -1,19 +1,19 @@
 -- The flat hard wrap, a stretch of one piece at a time.
 -- Assumes nothing.
-use mathlib.Core.Path.{◌≡◌, refl, sym, ap, ◌∙◌}
+use mathlib.Core.Path.{◌≡◌, refl, ap, ◌∙◌}
 use mathlib.Core.Bool.{Bool, true, false, ◌&&◌}
 use mathlib.Core.Option.{Option, none, some}
 use mathlib.Core.List.{List, [], ◌∷◌, ◌++◌, append-nil, append_assoc}
 use Prim.Native.Nat.{ℕ, ◌+◌, ◌-◌, ◌<◌, ◌≤◌}
 use native.Mathlib.Omega.{arith}
-use borrow.Author.Tests.{le-leb, lt-leb, eq-eqb, ne_eqb}
+use borrow.Author.Tests.{le-leb, lt-leb, ne_eqb}
 use lib.Dec.{eqb}
 use lib.ListN.{length}
 use Rattle.characters.specs.If.{if◌then◌else◌}
 use Rattle.characters.specs.Columns.{cols, str_width}
 use Rattle.fields.specs.Job.{Mode, normal, pre, pre_wrap}
 use Rattle.fields.specs.declared.job.Setup.{Setup}
-use Rattle.block.specs.Tag.{Tag, same_tag, same_mode}
+use Rattle.block.specs.Tag.{Tag, same_mode}
 use Rattle.block.specs.Result.{too_narrow}
 use Rattle.block.specs.Flat.{char, name, Line, columns, flat_push_char, Block, with_line, left, flat_force_flush_line, alone, narrow, on_line, too_wide, is_first, next_line, wrap_char, go_on, flat_hard_wrap}
 use Rattle.lines.specs.Bridge.{text, Cut}

@@ -9,7 +9,7 @@ use native.Mathlib.Numerals.{add-one}
 use native.Mathlib.Omega.{arith}
 use borrow.Author.Tests.{eq-eqb, ne_eqb, eqb-true}
 use lib.ListN.{length, take, drop, get_or, length-take, length-drop, drop_of_length-le}
-use lib.Seq.{drop-cons, drop-drop, drop-length, take-length}
+use lib.Seq.{drop-cons, drop-drop, take-length}
 use lib.Dec.{eqb}
 use Rattle.characters.specs.If.{if◌then◌else◌}
 use Rattle.characters.proofs.Tests.{or_true}

@@ -1,7 +1,7 @@
 -- The parts of a border's field that is read.
 -- Assumes nothing.
-use mathlib.Core.Path.{◌≡◌, refl, sym, ap, subst, ◌∙◌}
-use mathlib.Core.Bool.{Bool, true, false, ◌&&◌}
+use mathlib.Core.Path.{◌≡◌, refl, subst}
+use mathlib.Core.Bool.{◌&&◌}
 use mathlib.Core.Option.{Option, none, some, map}
 use mathlib.Core.List.{List, [], ◌∷◌}
 use Prim.Native.Nat.{ℕ, suc, ◌+◌, ◌-◌, ◌*◌, ◌≤◌, ◌<◌}
@@ -9,11 +9,11 @@ use native.Mathlib.Omega.{arith}
 use lib.Dec.{leb, eqb}
 use lib.ListN.{length, take, drop, get_or, drop_of_length-le}
 use lib.Seq.{take_all}
-use borrow.Author.Tests.{leb-true, eq-eqb, ne_eqb}
-use Rattle.characters.proofs.Tests.{by_if, and_left, and_right}
-use Rattle.fields.specs.Field.{Raw, whole, raws, read_all, part, all}
+use borrow.Author.Tests.{leb-true, ne_eqb}
+use Rattle.characters.proofs.Tests.{by_if, and_right}
+use Rattle.fields.specs.Field.{whole, raws, read_all, all}
 use Rattle.fields.specs.Sheet.{Piece, read_piece, is_segment}
-use Rattle.fields.specs.Spans.{Hole, hole, RenderLine, text, border, raw_holes, read_holes, ends_within, holed, read_holed, read_border, read_line}
+use Rattle.fields.specs.Spans.{Hole, RenderLine, text, border, raw_holes, read_holes, ends_within, holed, read_holed, read_border, read_line}
 use Rattle.fields.specs.Places.{HolesFrom}
 use Rattle.places.specs.Border.{BorderAt}
 use Rattle.places.proofs.HoleLaws.{holes_nil}

@@ -8,20 +8,20 @@ use Prim.Native.Nat.{ℕ, ◌+◌, ◌-◌, ◌≤◌, ◌<◌}
 use native.Mathlib.Omega.{arith}
 use lib.Dec.{eqb}
 use lib.ListN.{length, take, drop, get_or, length-drop}
-use borrow.Author.Tests.{eqb-true, eqb-false, ne_eqb}
+use borrow.Author.Tests.{eqb-true, eqb-false}
 use Rattle.characters.specs.Utf8.{chars}
 use Rattle.characters.proofs.Tests.{by_if, and_left, and_right}
 use Rattle.fields.specs.Field.{whole, broken, raws}
 use Rattle.fields.specs.Text.{holds, allowed_in, readable_text}
-use Rattle.fields.specs.Job.{JobField, Mode, normal, pre, pre_wrap, text, fragment, wrong, read_text, read_field, readable, all_readable, units, field_units, body_units}
+use Rattle.fields.specs.Job.{JobField, Mode, normal, pre, pre_wrap, text, wrong, read_text, read_field, readable, all_readable, units, field_units, body_units}
 use Rattle.fields.proofs.Fields.{FieldIs}
-use Rattle.fields.proofs.Jobs.{text_units, name_read, other_read, text_field, short_read, mode_read}
+use Rattle.fields.proofs.Jobs.{text_units, name_read, text_field, short_read, mode_read}
 use Rattle.fields.proofs.Texts.{rest}
 use Rattle.block.specs.Flat.{Block, flat_add_element, flat_add_field, flat_add_fields}
 use Rattle.lines.specs.Bridge.{mode_no}
 use Rattle.hard_wrap.specs.Hold.{setup}
 use Rattle.hard_wrap.specs.declared.line.Frame.{Frame}
-use Rattle.flush_word.specs.Keep.{Keeps, CountsWithinUnits, BuffersLongEnough}
+use Rattle.flush_word.specs.Keep.{Keeps, CountsWithinUnits}
 use Rattle.flush_word.specs.declared.state.State.{State}
 use Rattle.flush_word.specs.declared.state.Flushed.{Flushed}
 use Rattle.flush_word.specs.declared.state.Flushed.TheVariants.{Done, Narrow}
@@ -29,7 +29,6 @@ use Rattle.add_chars.specs.Chars.{AddsElement}
 use Rattle.add_text.specs.Walks.{RunSmall, RunIs, TextSmall, AddsText}
 use Rattle.add_text.specs.declared.text.Run.{Run}
 use Rattle.render.specs.Render.{run_of, AddsField, AddsFields}
-use Rattle.add_text.proofs.Walking.{lent_word}
 
 -- ---- what a field reads as
 

@@ -4,16 +4,15 @@ use mathlib.Core.Path.{◌≡◌, refl, sym, ap, ap₂, ◌∙◌}
 use mathlib.Core.Bool.{Bool, true, false}
 use mathlib.Core.Option.{Option, none, some}
 use mathlib.Core.List.{List, [], ◌∷◌, ◌++◌, append-nil, append_assoc}
-use mathlib.Core.Logic.{◌⊎◌, ⊎_elim}
 use Prim.Native.Nat.{ℕ, zero, suc, ◌+◌, ◌-◌, ◌*◌, ◌%◌, ◌≤◌, ◌<◌}
 use native.Mathlib.Omega.{arith}
 use native.Mathlib.Nat.{mod-eq_of_lt}
 use lib.Dec.{eqb, leb}
-use lib.ListN.{length, get_or, replicate, take, drop, length-drop, drop_of_length-le, length-append, length-replicate}
+use lib.ListN.{length, get_or, replicate, drop, length-drop, drop_of_length-le, length-append, length-replicate}
 use lib.Seq.{sets}
 use borrow.Author.Tests.{eq-eqb, ne_eqb, eqb-true, leb-true, leb-false}
 use Rattle.characters.specs.If.{if◌then◌else◌}
-use Rattle.characters.proofs.Tests.{by_if, lt_or_le, and_left, and_right}
+use Rattle.characters.proofs.Tests.{by_if, and_left, and_right}
 use Rattle.fields.specs.Field.{Raw, whole, broken, raws_f, raws, read_all, part, two, head, field, all}
 use Rattle.fields.specs.Sheet.{Piece, str, fragment, read_str, read_piece, piece_bytes}
 use Rattle.fields.specs.Store.{Wrote}
@@ -22,7 +21,7 @@ use Rattle.fields.proofs.Back.{Every}
 use Rattle.fields.proofs.Fields.{FieldIs, raws_nil}
 use Rattle.fields.proofs.Readings.{read_first, read_none, read_size}
 use Rattle.fields.proofs.Parts.{part_length}
-use Rattle.fields.proofs.Sets.{sets_append, wrote_then}
+use Rattle.fields.proofs.Sets.{sets_append}
 use Rattle.fields.specs.TaggedLine.{WellFormedPiece, join, push_str, push_ws, pad_to}
 use Rattle.rows.proofs.Lines.{text_width_append, spaces_formed, spaces_width}
 use Rattle.rows.proofs.Reading.{OnSome, some_of}
@@ -33,7 +32,7 @@ use Rattle.tagged_line.specs.Pieces.{PiecesOf}
 use Rattle.holes.specs.Cols.{CountsPiece}
 use Rattle.long_borders.proofs.Laws.{near_low, near_sym}
 use Rattle.long_borders.specs.Keeps.{Near, Keeps, Cuts, Advances}
-use Rattle.row_holes.specs.Pieces.{takes, takes_if, with_spaces, TakesSpaces, piece_hole, space_hole, placed, HolesPut, PutsPieces, CutsPieces}
+use Rattle.row_holes.specs.Pieces.{takes, takes_if, with_spaces, TakesSpaces, piece_hole, space_hole, placed, HolesPut}
 
 -- ---- `taken`
 

@@ -1,16 +1,15 @@
 -- The line of a seat that comes where the border below the row is.
 -- Assumes nothing.
 use mathlib.Core.Path.{◌≡◌, refl, sym, ap, ◌∙◌}
-use mathlib.Core.Bool.{Bool, true, false, not, ◌&&◌}
+use mathlib.Core.Bool.{Bool, true, false}
 use mathlib.Core.Option.{Option, none, some, map}
-use mathlib.Core.List.{List, [], ◌∷◌, ◌++◌, append-nil, append_assoc}
+use mathlib.Core.List.{List, [], ◌∷◌, ◌++◌, append_assoc}
 use Prim.Native.Nat.{ℕ, zero, suc, ◌+◌, ◌-◌, ◌≤◌, ◌<◌}
 use native.Mathlib.Omega.{arith}
-use lib.Dec.{eqb, leb, ltb}
+use lib.Dec.{eqb, ltb}
 use lib.ListN.{length, take, drop, replicate, length-append}
 use lib.Seq.{sets, sets-eq, length-take-le}
-use borrow.Author.Tests.{eq-eqb, ne_eqb}
-use Rattle.characters.specs.If.{if◌then◌else◌}
+use borrow.Author.Tests.{eq-eqb}
 use Rattle.characters.proofs.Tests.{by_if, and_left, and_right, clash}
 use Rattle.fields.specs.Field.{whole, raws, read_all, part, all, field_at, Short}
 use Rattle.fields.specs.declared.field.Field.{Field}
@@ -24,15 +23,15 @@ use Rattle.borders.specs.BorderHoriz.{stretch_to, to_string, up_to_hole, into_ta
 use Rattle.fields.specs.TaggedLine.{WellFormedPiece, join, push_str, push, consume, push_ws, pad_to}
 use Rattle.rows.specs.declared.RenderOptions.{RenderOptions}
 use Rattle.rows.proofs.Lines.{readable_formed}
-use Rattle.fields.specs.Spans.{Hole, hole, RenderLine, text, border, read_line, readable_hole, readable_line, readable_lines, holes_bytes}
+use Rattle.fields.specs.Spans.{Hole, RenderLine, text, border, read_line, readable_line, readable_lines, holes_bytes}
 use Rattle.rows.specs.SubRenderer.{filled, into_tagged_line, is_border}
 use Rattle.rows.specs.Columns.{Slot, column_of, through_of, punch}
 use Rattle.fields.specs.Places.{LinesAt}
-use Rattle.bodies.specs.Body.{BodyIs, FindsBody}
+use Rattle.bodies.specs.Body.{FindsBody}
 use Rattle.bodies.specs.Walk.{SkipsTo}
 use Rattle.bodies.specs.declared.body.Body.{Body}
 use Rattle.bodies.proofs.LineLaws.{no_lines_lem, first_line, line_broken, line_end_lem}
-use Rattle.bodies.proofs.BodyLaws.{line_border, line_text, column_readable, readable_drop}
+use Rattle.bodies.proofs.BodyLaws.{line_border, column_readable, readable_drop}
 use Rattle.places.specs.Border.{FindsParts}
 use Rattle.places.specs.declared.border.Parts.{Parts}
 use Rattle.extend_lines.proofs.Emitting.{held_new}

@@ -10,7 +10,7 @@ use lib.Dec.{ltb}
 use lib.ListN.{length, replicate}
 use borrow.Author.Tests.{ltb-true, ltb-false}
 use Rattle.characters.specs.Utf8.{Place, fresh, inside, Step, bad, on, ends, step_byte, follow, at_end, chars_from, chars}
-use Rattle.characters.specs.Columns.{cols, str_width}
+use Rattle.characters.specs.Columns.{str_width}
 use Rattle.characters.proofs.Tables.{cols_le_two}
 use Rattle.fields.specs.Sheet.{Piece, str, fragment}
 use Rattle.fields.specs.Widths.{width_or, text_width, width}

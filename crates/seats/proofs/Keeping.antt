@@ -3,7 +3,7 @@
 use mathlib.Core.Path.{◌≡◌, refl, sym, ap, subst, ◌∙◌}
 use mathlib.Core.Bool.{Bool, true, false}
 use mathlib.Core.List.{List, [], ◌∷◌, ◌++◌, append_assoc}
-use Prim.Native.Nat.{ℕ, ◌+◌, ◌*◌, ◌≤◌, ◌<◌}
+use Prim.Native.Nat.{ℕ, ◌+◌, ◌≤◌, ◌<◌}
 use native.Mathlib.Omega.{arith}
 use native.Mathlib.Numerals.{add-one}
 use lib.Dec.{eqb}
@@ -12,7 +12,6 @@ use lib.Seq.{get_or-set_same, get_or-set_other, get_or_at, drop-cons}
 use borrow.Author.Tests.{eqb-true, eqb-false}
 use Rattle.rows.specs.Columns.{Slot, slot}
 use Rattle.slots.specs.Seats.{SeatIs, SeatIn, SlotsIn, SlotsLeft, FoundIn, FindsNext, laid_of, passed_of, total_of}
-use Rattle.fields.specs.Spans.{Cell}
 use Rattle.slots.specs.Cell.{CellIn, FindsCell}
 use Rattle.slots.specs.declared.cell.Laid.{Laid}
 use Rattle.slots.specs.declared.cell.Laid.TheVariants.{Lies, NoCell}

@@ -12,7 +12,7 @@ use lib.Seq.{sets, length-take-le}
 use borrow.Author.Tests.{eqb-true, eqb-false, eq-eqb, ne_eqb}
 use Rattle.characters.specs.If.{if◌then◌else◌}
 use Rattle.characters.proofs.Tests.{and_left, and_right}
-use Rattle.fields.specs.Field.{field, whole, broken, raws, both, read_all, all}
+use Rattle.fields.specs.Field.{field, whole, broken, raws, read_all, all}
 use Rattle.fields.specs.Sheet.{Piece, str, fragment, read_str, read_piece, readable_piece, piece_bytes, pieces_bytes}
 use Rattle.fields.specs.Store.{Wrote}
 use Rattle.fields.specs.Widths.{text_width, piece_width, width}

@@ -3,7 +3,6 @@ use mathlib.Core.Path.{◌≡◌, ap₂, ◌∙◌}
 use Rattle.fields.specs.First.{first_of}
 use Rattle.checks.proofs.Verdicts.{columns_number}
 use Rattle.append_columns.proofs.CallLaws.{call_refused, old_in, call_laid}
-use borrow.Author.Rules.{rules}
 use Rattle.append_columns.proofs.append_columns_with_borders.Goals as goal
 
 pub returns-then-n-ne0 : goal.returns-then-n-ne0

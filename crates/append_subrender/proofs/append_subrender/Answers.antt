@@ -12,7 +12,6 @@ use Rattle.checks.specs.Split.{SheetAt}
 use Rattle.checks.proofs.Verdicts.{subrender_number}
 use Rattle.append_subrender.proofs.Refusing.{SubrenderPasses, subrender_passes}
 use Rattle.append_subrender.proofs.Calling.{none_bounds, tail_inside, subrender_refuses, subrender_misfits, subrender_gives}
-use borrow.Author.Rules.{rules}
 use Rattle.append_subrender.proofs.append_subrender.Goals as goal
 
 pub returns-then-n-ne0 : goal.returns-then-n-ne0

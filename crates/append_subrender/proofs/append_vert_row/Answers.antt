@@ -11,7 +11,6 @@ use Rattle.checks.specs.Split.{SheetAt}
 use Rattle.checks.proofs.Verdicts.{vert_row_number}
 use Rattle.append_subrender.proofs.Refusing.{VertRowPasses, vert_row_passes}
 use Rattle.append_subrender.proofs.Calling.{none_bounds, cells_few, tail_inside, vert_row_refuses, vert_row_misfits, vert_row_gives}
-use borrow.Author.Rules.{rules}
 use Rattle.append_subrender.proofs.append_vert_row.Goals as goal
 
 pub returns-then-n-ne0 : goal.returns-then-n-ne0

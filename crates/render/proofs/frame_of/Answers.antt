@@ -1,6 +1,5 @@
 -- `render::frame_of` meets its contract: each field is the setup's.
 -- Assumes nothing.
-use borrow.Author.Rules.{rules}
 use Rattle.render.proofs.frame_of.Goals as goal
 
 pub returns : goal.returns

@@ -2,7 +2,6 @@
 -- Assumes nothing.
 use mathlib.Core.Path.{sym, ap, ◌∙◌}
 use native.Mathlib.Omega.{arith}
-use borrow.Author.Rules.{rules}
 use Rattle.fields.proofs.Jobs.{job_headless}
 use Rattle.fields.specs.Job.{head_in}
 use Rattle.render.proofs.Answering.{Good, good_job, few_units, frame_small, answers_refused, answers_sheet, answers_narrow}

@@ -1,7 +1,6 @@
 -- `sheet_c::sheet_append_columns_with_borders` meets its contract: what `append_columns_with_borders` says, told in two numbers.
 -- Assumes nothing.
 use mathlib.Core.Path.{◌∙◌}
-use borrow.Author.Rules.{rules}
 use Rattle.sheet_c.proofs.sheet_append_columns_with_borders.Goals as goal
 
 pub returns : goal.returns

@@ -1,7 +1,6 @@
 -- `sheet_c::sheet_append_subrender` meets its contract: what `append_subrender` says, told in two numbers.
 -- Assumes nothing.
 use mathlib.Core.Path.{◌∙◌}
-use borrow.Author.Rules.{rules}
 use Rattle.sheet_c.proofs.sheet_append_subrender.Goals as goal
 
 pub returns : goal.returns

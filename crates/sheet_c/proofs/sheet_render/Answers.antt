@@ -1,7 +1,6 @@
 -- `sheet_c::sheet_render` meets its contract: what `render` says, told in two numbers.
 -- Assumes nothing.
 use mathlib.Core.Path.{◌∙◌}
-use borrow.Author.Rules.{rules}
 use Rattle.sheet_c.proofs.sheet_render.Goals as goal
 
 pub returns : goal.returns

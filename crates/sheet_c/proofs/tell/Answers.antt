@@ -3,7 +3,6 @@
 use mathlib.Core.Path.{◌≡◌, sym, ap}
 use mathlib.Core.List.{List}
 use Prim.Native.Nat.{ℕ}
-use borrow.Author.Rules.{rules}
 use Rattle.fields.specs.Answer.{rendered}
 use Rattle.fields.specs.declared.answer.Rendered.{Rendered}
 use Rattle.sheet_c.proofs.tell.Goals as goal

@@ -2,7 +2,6 @@
 -- Assumes nothing.
 use mathlib.Core.Path.{refl}
 use native.Mathlib.Omega.{arith}
-use borrow.Author.Rules.{rules}
 use Rattle.add_chars.proofs.Wording.{small_name, adds_name}
 use Rattle.add_chars.proofs.chars.add_element.Goals as goal
 

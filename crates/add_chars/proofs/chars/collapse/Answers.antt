@@ -1,7 +1,6 @@
 -- `add_chars::chars::collapse` meets its contract: a blank pends where the line has columns and none pends yet.
 -- Assumes nothing.
 use native.Mathlib.Omega.{arith}
-use borrow.Author.Rules.{rules}
 use Rattle.add_chars.proofs.Wording.{small_pend, collapses_start, collapses_pending, collapses_one}
 use Rattle.add_chars.proofs.chars.collapse.Goals as goal
 

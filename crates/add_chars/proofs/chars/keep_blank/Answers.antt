@@ -2,7 +2,6 @@
 -- Assumes nothing.
 use mathlib.Core.Path.{refl}
 use native.Mathlib.Omega.{arith}
-use borrow.Author.Rules.{rules}
 use Rattle.add_chars.proofs.Wording.{small_pend, keeps_joins, keeps_pends}
 use Rattle.add_chars.proofs.chars.keep_blank.Goals as goal
 

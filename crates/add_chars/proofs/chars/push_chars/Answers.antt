@@ -1,7 +1,6 @@
 -- `add_chars::chars::push_chars` meets its contract: the bytes of the characters stand after those of the word.
 -- Assumes nothing.
 use mathlib.Core.Path.{refl}
-use borrow.Author.Rules.{rules}
 use Rattle.add_chars.proofs.Wording.{small_push, pushes}
 use Rattle.add_chars.proofs.chars.push_chars.Goals as goal
 

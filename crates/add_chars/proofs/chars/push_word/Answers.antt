@@ -1,6 +1,5 @@
 -- `add_chars::chars::push_word` meets its contract: one character is put as characters are.
 -- Assumes nothing.
-use borrow.Author.Rules.{rules}
 use Rattle.add_chars.proofs.Wording.{pushes_one}
 use Rattle.add_chars.proofs.chars.push_word.Goals as goal
 

@@ -1,7 +1,6 @@
 -- `add_chars::stops::newline` meets its contract: LF closes the line, and the blanks and the flag are gone.
 -- Assumes nothing.
 use mathlib.Core.Path.{refl}
-use borrow.Author.Rules.{rules}
 use Rattle.hard_wrap.specs.Hold.{setup}
 use Rattle.add_chars.proofs.Stopping.{newline_small, newline_keeps}
 use Rattle.add_chars.proofs.stops.newline.Goals as goal

@@ -1,7 +1,6 @@
 -- `add_chars::stops::tab` meets its contract: a tab changes only the lines, from the position over line, word and blanks.
 -- Assumes nothing.
 use mathlib.Core.Path.{refl}
-use borrow.Author.Rules.{rules}
 use Rattle.hard_wrap.specs.Hold.{setup}
 use Rattle.add_chars.proofs.Stopping.{tab_small, tab_keeps}
 use Rattle.add_chars.proofs.stops.tab.Goals as goal

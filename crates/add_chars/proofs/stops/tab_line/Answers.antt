@@ -1,8 +1,7 @@
 use mathlib.Core.Path.{refl}
-use mathlib.Core.Logic.{⊎_elim}
 use native.Mathlib.Omega.{arith}
 use borrow.Author.Rules.{rules}
-use Rattle.add_chars.proofs.Stopping.{no_space, off_stop, Turning, going_stops, going_ends, turning, tabbed}
+use Rattle.add_chars.proofs.Stopping.{no_space, off_stop, going_stops, going_ends, turning, tabbed}
 use Rattle.add_chars.proofs.stops.tab_line.Goals as goal
 use Rattle.add_chars.proofs.stops.tab_line.Goals.{then-cur-eq0+else-cur, else-cur-eq0}
 
@@ -26,7 +25,7 @@ pub loop-turns-preserved : goal.loop-turns-preserved
 loop-turns-preserved c =
     turning c.loop-turns.invariant c.loop-turns-test.true
     (elim c.if-cur-eq0.branch [
-      then-cur-eq0+else-cur w ↦ no_space c.loop-turns.cur.pos c.loop-turns.cur.one w.if-cur.false
+      | then-cur-eq0+else-cur w ↦ no_space c.loop-turns.cur.pos c.loop-turns.cur.one w.if-cur.false
       | else-cur-eq0 w ↦ off_stop c.loop-turns.cur.pos c.loop-turns.cur.one w.if-cur-eq0.false
     ])
     (search rules) (search rules) (search rules) c.tab_turn-cur.ensures.tab_moved c.tab_turn-cur.ensures.turns

@@ -1,10 +1,6 @@
 -- `add_chars::stops::tab_line` meets its contract. The loop's invariant: there is room for the turns left, and they make the whole tab.
 -- The measure is the turns left. Assumes nothing.
-use mathlib.Core.Path.{refl}
-use mathlib.Core.Logic.{⊎_elim}
-use native.Mathlib.Omega.{arith}
-use borrow.Author.Rules.{rules}
-use Rattle.add_chars.proofs.Stopping.{no_space, off_stop, Turning, going_stops, going_ends, turning, tabbed}
+use Rattle.add_chars.proofs.Stopping.{Turning}
 use Rattle.add_chars.proofs.stops.tab_line.Given as goal
 
 abbrev pub invariant-loop-turns : goal.invariant-loop-turns

@@ -2,7 +2,6 @@
 -- Assumes nothing.
 use mathlib.Core.Path.{sym}
 use native.Mathlib.Omega.{arith}
-use borrow.Author.Rules.{rules}
 use lib.Seq.{length-take-le}
 use Rattle.characters.proofs.Runs.{run_whole}
 use Rattle.add_text.proofs.WordChars.{walked_on}
@@ -30,6 +29,9 @@ pub returns : goal.returns
 returns c =
     let inside = run_inside c.args.text.now c.least-end.result _ (omega arith) c.plain_run-plain.ensures.len_in_bounds.0 in
     let size = length-take-le c.plain_run-plain.result.len c.args.text.now inside in
-    record { len_in_bounds = (inside, walked_on c.args.frame c.push_chars-st.result c.take_of-take.result.ann _ (c.push_chars-st.ensures.counts_within_units_2.0, omega arith) c.take_of-take.ensures.0); adds_plain = plain_taken c.args.frame c.args.run c.args.w c.args.text.now c.take_of-take.result c.plain_run-plain.result.len c.plain_run-plain.result.cols c.tag_of-tag.result (run_whole c.args.text.now c.least-end.result c.plain_run-plain.ensures.plain_run) c.push_chars-st.result
+    record {
+      len_in_bounds = (inside, walked_on c.args.frame c.push_chars-st.result c.take_of-take.result.ann _ (c.push_chars-st.ensures.counts_within_units_2.0, omega arith) c.take_of-take.ensures.0);
+      adds_plain = plain_taken c.args.frame c.args.run c.args.w c.args.text.now c.take_of-take.result c.plain_run-plain.result.len c.plain_run-plain.result.cols c.tag_of-tag.result (run_whole c.args.text.now c.least-end.result c.plain_run-plain.ensures.plain_run) c.push_chars-st.result
           c.args.wb.now c.args.wt.now _ _ (omega arith) c.tag_of-tag.ensures c.take_of-take.ensures.0 c.push_chars-st.ensures.pushes_chars c.take_of-take.ensures
-          (run_most c.args.text.now c.least-end.result _ (omega arith) c.plain_run-plain.ensures.len_in_bounds.0 _ _ (omega arith) c.plain_run-plain.ensures.len_in_bounds.1) }
+          (run_most c.args.text.now c.least-end.result _ (omega arith) c.plain_run-plain.ensures.len_in_bounds.0 _ _ (omega arith) c.plain_run-plain.ensures.len_in_bounds.1);
+    }

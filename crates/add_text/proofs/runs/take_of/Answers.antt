@@ -3,7 +3,6 @@
 use mathlib.Core.Path.{refl}
 use mathlib.Core.Logic.{inl, inr}
 use native.Mathlib.Omega.{arith}
-use borrow.Author.Rules.{rules}
 use Rattle.add_text.proofs.runs.take_of.Goals as goal
 
 pub returns-then-run-ne1 : goal.returns-then-run-ne1

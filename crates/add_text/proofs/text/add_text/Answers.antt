@@ -1,10 +1,9 @@
 use mathlib.Core.Path.{◌≡◌, sym, ◌∙◌}
-use Prim.Native.Nat.{ℕ, ◌-◌}
+use Prim.Native.Nat.{ℕ}
 use native.Mathlib.Omega.{arith}
 use borrow.Author.Rules.{rules}
-use lib.ListN.{length}
 use Rattle.hard_wrap.proofs.Walks.{part_len}
-use Rattle.add_text.proofs.Walking.{lent_same, lent_word, Walking, walking_starts, walking_past, char_inside, char_some, char_is, char_ready, walking_on, walking_narrow, walking_ends}
+use Rattle.add_text.proofs.Walking.{lent_same, lent_word, walking_starts, walking_past, char_inside, char_some, char_is, char_ready, walking_on, walking_narrow, walking_ends}
 use Rattle.add_text.proofs.text.add_text.Goals as goal
 
 -- a length that is as before, which was as at the start

@@ -1,13 +1,9 @@
 -- `add_text::text::add_text` meets its contract. The loop's invariant: what is left of the text, from the walk as it now stands, gives what
 -- the whole text gives; the plain characters of a turn keep it, and so does the character after them. The measure is the bytes left.
 -- Assumes nothing.
-use mathlib.Core.Path.{◌≡◌, sym, ◌∙◌}
-use Prim.Native.Nat.{ℕ, ◌-◌}
-use native.Mathlib.Omega.{arith}
-use borrow.Author.Rules.{rules}
+use Prim.Native.Nat.{◌-◌}
 use lib.ListN.{length}
-use Rattle.hard_wrap.proofs.Walks.{part_len}
-use Rattle.add_text.proofs.Walking.{lent_same, lent_word, Walking, walking_starts, walking_past, char_inside, char_some, char_is, char_ready, walking_on, walking_narrow, walking_ends}
+use Rattle.add_text.proofs.Walking.{Walking}
 use Rattle.add_text.proofs.text.add_text.Given as goal
 
 abbrev pub invariant-loop-code : goal.invariant-loop-code

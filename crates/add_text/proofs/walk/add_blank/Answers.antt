@@ -1,7 +1,6 @@
 -- `add_text::walk::add_blank` meets its contract: white space collapses in Normal; else it is LF, a tab, or a blank that is kept.
 -- Assumes nothing.
 use native.Mathlib.Omega.{arith}
-use borrow.Author.Rules.{rules}
 use Rattle.add_text.proofs.Walking.{walked_more, walk_more, ready_one, lent_word, blank_collapses, blank_closes, blank_tabs, blank_stays}
 use Rattle.add_text.proofs.walk.add_blank.Goals as goal
 

@@ -1,7 +1,6 @@
 -- `add_text::walk::add_char` meets its contract: the character is put once the break point before it is dealt with.
 -- Assumes nothing.
 use mathlib.Core.Path.{refl}
-use borrow.Author.Rules.{rules}
 use Rattle.add_text.proofs.Walking.{ready_next, walk_next, lent_same, adds_char, adds_narrow}
 use Rattle.add_text.proofs.walk.add_char.Goals as goal
 

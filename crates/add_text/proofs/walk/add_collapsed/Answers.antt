@@ -1,6 +1,5 @@
 -- `add_text::walk::add_collapsed` meets its contract: the annotation is the tag of a blank in Normal.
 -- Assumes nothing.
-use borrow.Author.Rules.{rules}
 use Rattle.add_text.proofs.Breaking.{adds_collapsed}
 use Rattle.add_text.proofs.walk.add_collapsed.Goals as goal
 

@@ -10,8 +10,11 @@ keep_blank-next-requires c =
 
 pub returns-in-Cols : goal.returns-in-Cols
 returns-in-Cols c =
-    record { walked_small = walked_on c.args.frame c.keep_blank-next.result c.args.w.ann _ c.keep_blank-next.ensures.counts_within_units_2 c.requires.ready.0.ann; adds_kept = kept_some c.args.w c.args.mode c.args.part.now c.args.code _ c.tag_of-tag.result c.args.wb.now c.args.wt.now c.keep_blank-next.result _ _ c.requires.char_is.0 c.requires.ready.0.ann c.tag_of-tag.ensures
-          (width_some c.args.code _ _ c.columns_of-k.ensures c.in-Cols.is c.wide.ensures.value) c.keep_blank-next.ensures.keeps_blank }
+    record {
+      walked_small = walked_on c.args.frame c.keep_blank-next.result c.args.w.ann _ c.keep_blank-next.ensures.counts_within_units_2 c.requires.ready.0.ann;
+      adds_kept = kept_some c.args.w c.args.mode c.args.part.now c.args.code _ c.tag_of-tag.result c.args.wb.now c.args.wt.now c.keep_blank-next.result _ _ c.requires.char_is.0 c.requires.ready.0.ann c.tag_of-tag.ensures
+          (width_some c.args.code _ _ c.columns_of-k.ensures c.in-Cols.is c.wide.ensures.value) c.keep_blank-next.ensures.keeps_blank;
+    }
 
 pub returns-in-Control : goal.returns-in-Control
 returns-in-Control c =

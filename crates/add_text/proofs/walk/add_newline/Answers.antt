@@ -1,7 +1,6 @@
 -- `add_text::walk::add_newline` meets its contract: LF after the word, or TooNarrow.
 -- Assumes nothing.
 use native.Mathlib.Omega.{arith}
-use borrow.Author.Rules.{rules}
 use Rattle.add_text.proofs.Breaking.{flushed_ready, flushed_small, newline_done, newline_narrow}
 use Rattle.add_text.proofs.walk.add_newline.Goals as goal
 

@@ -1,7 +1,6 @@
 -- `add_text::walk::add_tab` meets its contract: a tab after the word, or TooNarrow.
 -- Assumes nothing.
 use native.Mathlib.Omega.{arith}
-use borrow.Author.Rules.{rules}
 use Rattle.add_text.proofs.Breaking.{flushed_ready, flushed_small, tab_done, tab_narrow}
 use Rattle.add_text.proofs.walk.add_tab.Goals as goal
 

@@ -10,8 +10,11 @@ add_cols-requires c =
 
 pub returns-in-Cols : goal.returns-in-Cols
 returns-in-Cols c =
-    record { walked_small = c.add_cols.ensures.walked_small; adds_word_char = word_char_some c.args.frame c.args.run c.args.w c.args.part.now c.args.code _ c.args.wb.now c.args.wt.now c.add_cols.result _ _
-          (width_some c.args.code _ _ c.columns_of-k.ensures c.in-Cols.is c.wide.ensures.value) c.add_cols.ensures.adds_word_char }
+    record {
+      walked_small = c.add_cols.ensures.walked_small;
+      adds_word_char = word_char_some c.args.frame c.args.run c.args.w c.args.part.now c.args.code _ c.args.wb.now c.args.wt.now c.add_cols.result _ _
+          (width_some c.args.code _ _ c.columns_of-k.ensures c.in-Cols.is c.wide.ensures.value) c.add_cols.ensures.adds_word_char;
+    }
 
 pub returns-in-Control : goal.returns-in-Control
 returns-in-Control c =

@@ -1,7 +1,6 @@
 -- `add_text::walk::break_word` meets its contract: a word is flushed at a break point, but not without columns and not in Pre.
 -- Assumes nothing.
 use mathlib.Core.Path.{refl, sym, ◌∙◌}
-use borrow.Author.Rules.{rules}
 use Rattle.add_text.proofs.Breaking.{breaks_empty, breaks_pre, breaks_no, breaks_flush}
 use Rattle.add_text.proofs.walk.break_word.Goals as goal
 

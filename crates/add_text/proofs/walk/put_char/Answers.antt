@@ -1,7 +1,6 @@
 -- `add_text::walk::put_char` meets its contract: U+200B is dropped, and what takes no space always is white space.
 -- Assumes nothing.
 use mathlib.Core.Path.{sym, ◌∙◌}
-use borrow.Author.Rules.{rules}
 use Rattle.add_text.proofs.WordChars.{walked_still}
 use Rattle.add_text.proofs.Walking.{puts_none, puts_word_char, puts_blank}
 use Rattle.add_text.proofs.walk.put_char.Goals as goal

@@ -4,7 +4,6 @@ use mathlib.Core.Path.{refl, sym, ◌∙◌}
 use native.Mathlib.Omega.{arith}
 use lib.Seq.{length-take-le}
 use borrow.Author.Tests.{not-true, not-false}
-use borrow.Author.Rules.{rules}
 use Rattle.append_columns.proofs.BelowLaws.{part_low, same_lines, next_line_lem, below_none, below_holed, below_plain, below_long}
 use Rattle.append_columns.proofs.below.add_below.Goals as goal
 

@@ -1,7 +1,6 @@
 -- `below::add_drawn` meets its contract: the text is added, or only counted where it is too long.
 -- Assumes nothing.
 use mathlib.Core.Path.{sym, ◌∙◌}
-use borrow.Author.Rules.{rules}
 use Rattle.append_columns.proofs.BelowLaws.{drawn_added, drawn_counted}
 use Rattle.append_columns.proofs.below.add_drawn.Goals as goal
 

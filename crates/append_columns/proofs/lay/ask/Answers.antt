@@ -2,7 +2,6 @@
 use mathlib.Core.Bool.{false}
 use native.Mathlib.Omega.{arith}
 use Rattle.append_columns.proofs.LayLaws.{asked_six, asked_plain, asked_ten, asked_fits}
-use borrow.Author.Rules.{rules}
 use Rattle.append_columns.proofs.lay.ask.Goals as goal
 
 pub returns-then-no_border_above : goal.returns-then-no_border_above

@@ -1,9 +1,8 @@
 -- `lay::hand_names` meets its contract: the F fields from the place that the height chose. Assumes nothing.
-use mathlib.Core.Logic.{inl, inr, ⊎_elim}
+use mathlib.Core.Logic.{inl, inr}
 use native.Mathlib.Omega.{arith}
 use Rattle.extend_lines.proofs.Handing.{bytes_known}
 use Rattle.append_columns.proofs.LayLaws.{hands_names}
-use borrow.Author.Rules.{rules}
 use Rattle.append_columns.proofs.lay.hand_names.Goals as goal
 use Rattle.append_columns.proofs.lay.hand_names.Goals.{then-height-eq0, else-height-eq0}
 

@@ -1,7 +1,6 @@
 -- `lay::lay` meets its contract: the row is kept and asked, and refused or written. Assumes nothing.
 use Rattle.seats.proofs.Keeping.{row_in}
 use Rattle.append_columns.proofs.LayLaws.{lays_refused, lays_row}
-use borrow.Author.Rules.{rules}
 use Rattle.append_columns.proofs.lay.lay.Goals as goal
 
 pub survey-s-requires : goal.survey-s-requires

@@ -2,7 +2,6 @@
 use mathlib.Core.Path.{refl}
 use borrow.Author.Tests.{not-true, not-false}
 use Rattle.append_columns.proofs.LayLaws.{six_off, six_bare, six_last}
-use borrow.Author.Rules.{rules}
 use Rattle.append_columns.proofs.lay.no_border_above.Goals as goal
 
 pub returns-then-not-collapse : goal.returns-then-not-collapse

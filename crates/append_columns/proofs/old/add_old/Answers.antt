@@ -6,7 +6,6 @@ use native.Mathlib.Omega.{arith}
 use borrow.Author.Tests.{not-true, not-false}
 use Rattle.fields.proofs.Parts.{part_length}
 use Rattle.append_columns.proofs.OldLaws.{bounds_none, bounds_next, old_joined, old_plain}
-use borrow.Author.Rules.{rules}
 use Rattle.append_columns.proofs.old.add_old.Goals as goal
 
 pub copy_lines-requires : goal.copy_lines-requires

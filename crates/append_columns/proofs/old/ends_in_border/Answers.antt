@@ -3,7 +3,6 @@
 use mathlib.Core.Path.{refl, sym}
 use mathlib.Core.Bool.{true≢false}
 use Rattle.append_columns.proofs.OldLaws.{ends_none, ends_outside, ends_kind}
-use borrow.Author.Rules.{rules}
 use Rattle.append_columns.proofs.old.ends_in_border.Goals as goal
 
 pub returns-then-stop-last : goal.returns-then-stop-last

@@ -4,7 +4,6 @@ use mathlib.Core.Path.{sym}
 use native.Mathlib.Omega.{arith}
 use lib.Seq.{length-take-le}
 use Rattle.append_columns.proofs.OldLaws.{prev_long, prev_joined}
-use borrow.Author.Rules.{rules}
 use Rattle.append_columns.proofs.old.put_prev_border.Goals as goal
 
 pub returns-then-border-n : goal.returns-then-border-n

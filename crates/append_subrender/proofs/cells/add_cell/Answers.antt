@@ -1,11 +1,8 @@
 use mathlib.Core.Path.{sym, ◌∙◌}
-use Prim.Native.Nat.{◌-◌}
 use native.Mathlib.Omega.{arith}
-use lib.ListN.{length}
 use Rattle.fields.proofs.Fields.{FieldIs, field_is, field_broken, field_end}
 use Rattle.extend_lines.proofs.Copying.{content_short}
-use Rattle.append_subrender.specs.Prefixes.{added}
-use Rattle.append_subrender.proofs.Stacking.{InCell, none_few, within_start, within_on, within_few, within_end, within_broken}
+use Rattle.append_subrender.proofs.Stacking.{none_few, within_start, within_on, within_few, within_end, within_broken}
 use borrow.Author.Rules.{rules}
 use Rattle.append_subrender.proofs.cells.add_cell.Goals as goal
 

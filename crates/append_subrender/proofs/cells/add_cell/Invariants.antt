@@ -1,14 +1,9 @@
 -- `cells::add_cell` meets its contract: the lines added so far, and those left, give the whole.
 -- Assumes nothing.
-use mathlib.Core.Path.{sym, ◌∙◌}
 use Prim.Native.Nat.{◌-◌}
-use native.Mathlib.Omega.{arith}
 use lib.ListN.{length}
-use Rattle.fields.proofs.Fields.{FieldIs, field_is, field_broken, field_end}
-use Rattle.extend_lines.proofs.Copying.{content_short}
 use Rattle.append_subrender.specs.Prefixes.{added}
-use Rattle.append_subrender.proofs.Stacking.{InCell, none_few, within_start, within_on, within_few, within_end, within_broken}
-use borrow.Author.Rules.{rules}
+use Rattle.append_subrender.proofs.Stacking.{InCell}
 use Rattle.append_subrender.proofs.cells.add_cell.Given as goal
 
 abbrev pub invariant-loop-letter : goal.invariant-loop-letter

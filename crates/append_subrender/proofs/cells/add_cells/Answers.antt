@@ -1,10 +1,9 @@
 use mathlib.Core.Path.{sym, ◌∙◌, subst}
-use Prim.Native.Nat.{◌+◌, ◌-◌, ◌<◌}
+use Prim.Native.Nat.{◌+◌, ◌<◌}
 use native.Mathlib.Omega.{arith}
-use lib.ListN.{length}
 use Rattle.fields.specs.Field.{Short}
 use Rattle.fields.proofs.Fields.{FieldIs, field_is, field_broken, field_end}
-use Rattle.append_subrender.proofs.Stacking.{Stack, stack_start, stack_cell, stack_on, stack_empty, stack_few, stack_end, stack_broken}
+use Rattle.append_subrender.proofs.Stacking.{stack_start, stack_cell, stack_on, stack_empty, stack_few, stack_end, stack_broken}
 use borrow.Author.Rules.{rules}
 use Rattle.append_subrender.proofs.cells.add_cells.Goals as goal
 

@@ -1,13 +1,8 @@
 -- `cells::add_cells` meets its contract: the cells added so far, and those left, give the whole.
 -- Assumes nothing.
-use mathlib.Core.Path.{sym, ◌∙◌, subst}
-use Prim.Native.Nat.{◌+◌, ◌-◌, ◌<◌}
-use native.Mathlib.Omega.{arith}
+use Prim.Native.Nat.{◌-◌}
 use lib.ListN.{length}
-use Rattle.fields.specs.Field.{Short}
-use Rattle.fields.proofs.Fields.{FieldIs, field_is, field_broken, field_end}
-use Rattle.append_subrender.proofs.Stacking.{Stack, stack_start, stack_cell, stack_on, stack_empty, stack_few, stack_end, stack_broken}
-use borrow.Author.Rules.{rules}
+use Rattle.append_subrender.proofs.Stacking.{Stack}
 use Rattle.append_subrender.proofs.cells.add_cells.Given as goal
 
 abbrev pub invariant-loop-start : goal.invariant-loop-start

@@ -2,7 +2,6 @@
 -- Assumes nothing.
 use mathlib.Core.Path.{sym}
 use native.Mathlib.Omega.{arith}
-use borrow.Author.Rules.{rules}
 use lib.Seq.{length-take-le}
 use Rattle.append_subrender.proofs.Stacking.{rule_size, adds_rule}
 use Rattle.append_subrender.proofs.cells.add_rule.Goals as goal

@@ -3,7 +3,6 @@
 use native.Mathlib.Omega.{arith}
 use Rattle.append_subrender.proofs.Adding.{next_bounds}
 use Rattle.append_subrender.proofs.Stacking.{rule_drawn, rule_none}
-use borrow.Author.Rules.{rules}
 use Rattle.append_subrender.proofs.cells.add_rule_if.Goals as goal
 
 pub returns-then-drawn : goal.returns-then-drawn

@@ -1,10 +1,7 @@
 use mathlib.Core.Path.{sym, ◌∙◌}
-use Prim.Native.Nat.{◌-◌}
 use native.Mathlib.Omega.{arith}
-use borrow.Author.Rules.{rules}
-use lib.ListN.{length}
 use Rattle.fields.proofs.Fields.{FieldIs, field_is, field_broken, field_end}
-use Rattle.append_subrender.proofs.Telling.{LookedCells, cells_start, cells_found, cells_on, cells_empty, cells_none_left, cells_broken}
+use Rattle.append_subrender.proofs.Telling.{cells_start, cells_found, cells_on, cells_empty, cells_none_left, cells_broken}
 use Rattle.append_subrender.proofs.misfit.cells_misfit.Goals as goal
 
 pub loop-start-init : goal.loop-start-init

@@ -1,6 +1,5 @@
 -- `misfit::guest_misfit` meets its contract: no prefix, one that repeats, or as many lines as prefixes.
 -- Assumes nothing.
-use borrow.Author.Rules.{rules}
 use Rattle.append_subrender.proofs.Telling.{guest_has_none, guest_repeats, guest_counts}
 use Rattle.append_subrender.proofs.misfit.guest_misfit.Goals as goal
 

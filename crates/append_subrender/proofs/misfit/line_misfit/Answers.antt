@@ -1,9 +1,6 @@
 -- `misfit::line_misfit` meets its contract: the holes of a G field are looked at, and what is no G has none.
 -- Assumes nothing.
-use mathlib.Core.Path.{◌≡◌, sym, ◌∙◌}
-use Prim.Native.Nat.{ℕ}
 use native.Mathlib.Omega.{arith}
-use borrow.Author.Rules.{rules}
 use Rattle.append_subrender.proofs.Telling.{tells_plain, tells_holed}
 use Rattle.append_subrender.proofs.misfit.line_misfit.Goals as goal
 

@@ -1,12 +1,10 @@
 use mathlib.Core.Path.{sym, ◌∙◌}
 use mathlib.Core.Bool.{false}
-use Prim.Native.Nat.{◌-◌}
 use native.Mathlib.Omega.{arith}
-use borrow.Author.Rules.{rules}
-use lib.ListN.{length, drop}
+use lib.ListN.{drop}
 use Rattle.fields.proofs.Fields.{FieldIs, field_is, field_broken, field_end}
 use Rattle.extend_lines.proofs.Copying.{content_short}
-use Rattle.append_subrender.proofs.Telling.{Looked, looked_start, looked_on, lines_zero, lines_none, lines_broken, lines_found}
+use Rattle.append_subrender.proofs.Telling.{looked_start, looked_on, lines_zero, lines_none, lines_broken, lines_found}
 use Rattle.append_subrender.proofs.misfit.lines_misfit.Goals as goal
 
 pub loop-left-init : goal.loop-left-init

@@ -2,7 +2,6 @@
 use mathlib.Core.Path.{refl}
 use native.Mathlib.Omega.{arith}
 use borrow.Author.Tests.{not-true, not-false}
-use borrow.Author.Rules.{rules}
 use Rattle.bodies.proofs.BodyLaws.{body_plain, body_kept, body_off}
 use Rattle.bodies.proofs.body.body_of.Goals as goal
 

@@ -1,5 +1,4 @@
 -- `walk::last_line` meets its contract. Assumes nothing.
-use borrow.Author.Rules.{rules}
 use Rattle.bodies.proofs.walk.last_line.Goals as goal
 
 pub returns : goal.returns

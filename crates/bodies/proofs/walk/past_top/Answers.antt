@@ -1,7 +1,6 @@
 -- `walk::past_top` meets its contract. Assumes nothing.
 use mathlib.Core.Path.{sym, ◌∙◌}
 use native.Mathlib.Omega.{arith}
-use borrow.Author.Rules.{rules}
 use Rattle.bodies.proofs.BodyLaws.{top_none, top_border, top_text, top_past, top_broken, top_end}
 use Rattle.bodies.proofs.FieldLaws.{found_at}
 use Rattle.bodies.proofs.walk.past_top.Goals as goal

@@ -1,12 +1,7 @@
 -- `walk::skip_lines` meets its contract: from the place on stand the lines without the first so many.
 -- Assumes nothing.
-use mathlib.Core.Path.{sym, ◌∙◌}
 use Prim.Native.Nat.{◌-◌, ◌≤◌}
-use native.Mathlib.Omega.{arith}
-use borrow.Author.Rules.{rules}
 use Rattle.bodies.specs.Walk.{SkipsTo}
-use Rattle.bodies.proofs.LineLaws.{skip_on, skip_all, skip_done, skip_past, skip_broken, skip_ended}
-use Rattle.bodies.proofs.FieldLaws.{found_at}
 use Rattle.bodies.proofs.walk.skip_lines.Given as goal
 
 abbrev pub invariant-loop-i : goal.invariant-loop-i

@@ -1,5 +1,4 @@
 -- `walk::starts_border` meets its contract. Assumes nothing.
-use borrow.Author.Rules.{rules}
 use Rattle.bodies.proofs.BodyLaws.{tells_none, tells_outside, tells_text, tells_border}
 use Rattle.bodies.proofs.walk.starts_border.Goals as goal
 

@@ -1,9 +1,7 @@
 use mathlib.Core.Path.{sym, subst, ◌∙◌}
-use Prim.Native.Nat.{◌-◌}
 use native.Mathlib.Omega.{arith}
-use borrow.Author.Rules.{rules}
 use Rattle.fields.specs.Field.{Short}
-use Rattle.bodies.proofs.LineLaws.{Passes, passes_start, passes_on, passes_end, passes_broken, passes_ended, PassedIn, numbers_start, numbers_on, numbers_end, numbers_broken}
+use Rattle.bodies.proofs.LineLaws.{passes_start, passes_on, passes_end, passes_broken, passes_ended, numbers_start, numbers_on, numbers_end, numbers_broken}
 use Rattle.bodies.proofs.FieldLaws.{found_at}
 use Rattle.bodies.proofs.walk.walk_lines.Goals as goal
 

@@ -1,13 +1,8 @@
 -- `walk::walk_lines` meets its contract: the lines passed so far, with the place of the last of them, their number and whether one has holes,
 -- and those ahead are the whole.
 -- Assumes nothing.
-use mathlib.Core.Path.{sym, subst, ◌∙◌}
 use Prim.Native.Nat.{◌-◌}
-use native.Mathlib.Omega.{arith}
-use borrow.Author.Rules.{rules}
-use Rattle.fields.specs.Field.{Short}
-use Rattle.bodies.proofs.LineLaws.{Passes, passes_start, passes_on, passes_end, passes_broken, passes_ended, PassedIn, numbers_start, numbers_on, numbers_end, numbers_broken}
-use Rattle.bodies.proofs.FieldLaws.{found_at}
+use Rattle.bodies.proofs.LineLaws.{Passes, PassedIn}
 use Rattle.bodies.proofs.walk.walk_lines.Given as goal
 
 abbrev pub invariant-loop-at : goal.invariant-loop-at

@@ -1,6 +1,4 @@
 use mathlib.Core.Path.{◌≡◌}
-use Prim.Native.Nat.{◌-◌, ◌≤◌}
-use lib.ListN.{length, take, replicate}
 use Rattle.borders.specs.BorderHoriz.{new_type}
 use Rattle.borders.proofs.Buffers.{filled}
 use borrow.Author.Rules.{rules}

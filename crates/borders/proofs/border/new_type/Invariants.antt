@@ -2,9 +2,6 @@
 use mathlib.Core.Path.{◌≡◌}
 use Prim.Native.Nat.{◌-◌, ◌≤◌}
 use lib.ListN.{length, take, replicate}
-use Rattle.borders.specs.BorderHoriz.{new_type}
-use Rattle.borders.proofs.Buffers.{filled}
-use borrow.Author.Rules.{rules}
 use Rattle.borders.proofs.border.new_type.Given as goal
 
 abbrev pub invariant-loop-i : goal.invariant-loop-i

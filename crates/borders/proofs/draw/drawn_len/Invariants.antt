@@ -1,13 +1,8 @@
 -- `draw::drawn_len` meets its contract: its loop has counted the text of the first `i` segments. Assumes nothing.
-use mathlib.Core.Path.{◌≡◌, sym, ap, ◌∙◌}
-use mathlib.Core.List.{List}
-use Prim.Native.Nat.{ℕ, ◌-◌, ◌*◌, ◌≤◌}
-use native.Mathlib.Omega.{arith}
+use mathlib.Core.Path.{◌≡◌}
+use Prim.Native.Nat.{◌-◌, ◌*◌, ◌≤◌}
 use lib.ListN.{length, take}
-use lib.Seq.{take_all}
 use Rattle.borders.specs.BorderHoriz.{drawn}
-use Rattle.borders.proofs.Drawing.{length_next, drawn_nil}
-use borrow.Author.Rules.{rules}
 use Rattle.borders.proofs.draw.drawn_len.Given as goal
 
 abbrev pub invariant-loop-i : goal.invariant-loop-i

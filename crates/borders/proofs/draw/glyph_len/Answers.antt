@@ -3,7 +3,6 @@ use mathlib.Core.Path.{sym, ap}
 use native.Mathlib.Omega.{arith}
 use lib.ListN.{length}
 use Rattle.borders.proofs.Glyphs.{glyph_one, glyph_three}
-use borrow.Author.Rules.{rules}
 use Rattle.borders.proofs.draw.glyph_len.Goals as goal
 
 pub returns-then-c-lt128 : goal.returns-then-c-lt128

@@ -1,6 +1,5 @@
 -- `draw::glyph_of` meets its contract: each arm is one of the two tables. Assumes nothing.
 use Rattle.borders.proofs.Glyphs.{glyph_line, glyph_char}
-use borrow.Author.Rules.{rules}
 use Rattle.borders.proofs.draw.glyph_of.Goals as goal
 
 pub returns-then-lines : goal.returns-then-lines

@@ -1,9 +1,5 @@
-use mathlib.Core.Path.{◌≡◌}
-use Prim.Native.Nat.{◌+◌, ◌-◌, ◌≤◌}
+use Prim.Native.Nat.{◌+◌}
 use native.Mathlib.Omega.{arith}
-use lib.ListN.{length, take}
-use Rattle.fields.specs.Store.{Wrote}
-use Rattle.borders.specs.BorderHoriz.{drawn}
 use Rattle.borders.proofs.Drawing.{wrote_none, wrote_next, wrote_full, wrote_all, drawn_part}
 use borrow.Author.Rules.{rules}
 use Rattle.borders.proofs.draw.put_drawn.Goals as goal

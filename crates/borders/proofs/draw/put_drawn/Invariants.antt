@@ -1,12 +1,9 @@
 -- `draw::put_drawn` meets its contract. Its loop has written the text of the first `i` segments; what stands past the store's end is dropped. Assumes nothing.
 use mathlib.Core.Path.{◌≡◌}
 use Prim.Native.Nat.{◌+◌, ◌-◌, ◌≤◌}
-use native.Mathlib.Omega.{arith}
 use lib.ListN.{length, take}
 use Rattle.fields.specs.Store.{Wrote}
 use Rattle.borders.specs.BorderHoriz.{drawn}
-use Rattle.borders.proofs.Drawing.{wrote_none, wrote_next, wrote_full, wrote_all, drawn_part}
-use borrow.Author.Rules.{rules}
 use Rattle.borders.proofs.draw.put_drawn.Given as goal
 
 abbrev pub invariant-loop-i : goal.invariant-loop-i

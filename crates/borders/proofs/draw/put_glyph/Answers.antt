@@ -1,7 +1,6 @@
 -- `draw::put_glyph` meets its contract: one byte, or three writes of a byte, which are one write of three. Assumes nothing.
 use Rattle.fields.proofs.Sets.{wrote_then}
 use Rattle.borders.proofs.Glyphs.{glyph_one, glyph_three}
-use borrow.Author.Rules.{rules}
 use Rattle.borders.proofs.draw.put_glyph.Goals as goal
 
 pub returns-then-c-lt128 : goal.returns-then-c-lt128

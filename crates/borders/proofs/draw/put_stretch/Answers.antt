@@ -1,10 +1,6 @@
 use mathlib.Core.Path.{◌≡◌}
-use Prim.Native.Nat.{◌+◌, ◌-◌, ◌*◌, ◌≤◌}
 use native.Mathlib.Omega.{arith}
-use lib.ListN.{length, replicate}
-use Rattle.fields.specs.Store.{Wrote}
 use Rattle.borders.specs.BorderSegHoriz.{Horiz}
-use Rattle.borders.specs.BorderHoriz.{drawn}
 use Rattle.borders.proofs.Glyphs.{glyph_most}
 use Rattle.borders.proofs.Drawing.{wrote_none, horiz_full, horiz_wrote}
 use borrow.Author.Rules.{rules}

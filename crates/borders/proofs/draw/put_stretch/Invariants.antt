@@ -1,14 +1,10 @@
 -- `draw::put_stretch` meets its contract. Its loop has written the text of the first `i` Horiz; what stands past the store's end is dropped. Assumes nothing.
 use mathlib.Core.Path.{◌≡◌}
 use Prim.Native.Nat.{◌+◌, ◌-◌, ◌*◌, ◌≤◌}
-use native.Mathlib.Omega.{arith}
 use lib.ListN.{length, replicate}
 use Rattle.fields.specs.Store.{Wrote}
 use Rattle.borders.specs.BorderSegHoriz.{Horiz}
 use Rattle.borders.specs.BorderHoriz.{drawn}
-use Rattle.borders.proofs.Glyphs.{glyph_most}
-use Rattle.borders.proofs.Drawing.{wrote_none, horiz_full, horiz_wrote}
-use borrow.Author.Rules.{rules}
 use Rattle.borders.proofs.draw.put_stretch.Given as goal
 
 abbrev pub invariant-loop-i : goal.invariant-loop-i

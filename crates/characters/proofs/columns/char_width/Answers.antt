@@ -3,7 +3,6 @@
 use mathlib.Core.Path.{◌≡◌, sym, ◌∙◌}
 use Prim.Native.Nat.{ℕ, ◌≤◌}
 use native.Mathlib.Omega.{arith}
-use borrow.Author.Rules.{rules}
 use Rattle.characters.specs.Columns.{columns_of, width_in, or_zero, cols}
 use Rattle.characters.specs.declared.columns.Columns.{Columns}
 use Rattle.characters.proofs.Tables.{cols_in, cols_le_two}

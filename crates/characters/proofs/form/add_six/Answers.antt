@@ -1,7 +1,6 @@
 -- `characters::form::add_six` meets its contract: the shift and the mask add six bits.
 -- Assumes nothing.
 use Rattle.characters.proofs.Bits.{six}
-use borrow.Author.Rules.{rules}
 use Rattle.characters.proofs.form.add_six.Goals as goal
 
 pub returns : goal.returns

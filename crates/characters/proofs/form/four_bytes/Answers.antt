@@ -4,7 +4,6 @@ use borrow.Author.Tests.{le-leb, lt-leb, not-true, not-false}
 use native.Mathlib.Omega.{arith}
 use lib.Bits.{and_le_r, and_mask}
 use Rattle.characters.specs.Forms.{four}
-use borrow.Author.Rules.{rules}
 use Rattle.characters.proofs.form.four_bytes.Goals as goal
 
 pub returns-then-a-gt244 : goal.returns-then-a-gt244

@@ -4,7 +4,6 @@ use borrow.Author.Tests.{not-true, not-false}
 use native.Mathlib.Omega.{arith}
 use lib.Bits.{and_le_r, and_mask}
 use Rattle.characters.specs.Forms.{three}
-use borrow.Author.Rules.{rules}
 use Rattle.characters.proofs.form.three_bytes.Goals as goal
 
 pub returns-then-not-in_range : goal.returns-then-not-in_range

@@ -5,7 +5,6 @@ use borrow.Author.Tests.{le-leb, lt-leb}
 use native.Mathlib.Omega.{arith}
 use lib.Bits.{and_le_r, and_mask}
 use Rattle.characters.specs.Forms.{two}
-use borrow.Author.Rules.{rules}
 use Rattle.characters.proofs.form.two_bytes.Goals as goal
 
 pub returns-then-a-lt194 : goal.returns-then-a-lt194

@@ -1,13 +1,8 @@
 use mathlib.Core.Path.{refl}
-use mathlib.Core.Bool.{true}
 use mathlib.Core.List.{[]}
-use Prim.Native.Nat.{◌-◌, ◌≤◌}
 use native.Mathlib.Omega.{arith}
-use borrow.Author.Rules.{rules}
-use lib.ListN.{length}
 use Rattle.characters.specs.Columns.{str_width}
 use Rattle.characters.specs.Utf8.{text_bytes}
-use Rattle.characters.specs.Plain.{PlainRun}
 use Rattle.characters.proofs.Runs.{run_ascii}
 use Rattle.characters.proofs.plain.ascii_run.Goals as goal
 

@@ -1,16 +1,9 @@
 -- `characters::plain::ascii_run` meets its contract: each turn passes one printable ASCII character more.
 -- Assumes nothing.
-use mathlib.Core.Path.{refl}
 use mathlib.Core.Bool.{true}
-use mathlib.Core.List.{[]}
 use Prim.Native.Nat.{◌-◌, ◌≤◌}
-use native.Mathlib.Omega.{arith}
-use borrow.Author.Rules.{rules}
 use lib.ListN.{length}
-use Rattle.characters.specs.Columns.{str_width}
-use Rattle.characters.specs.Utf8.{text_bytes}
 use Rattle.characters.specs.Plain.{PlainRun}
-use Rattle.characters.proofs.Runs.{run_ascii}
 use Rattle.characters.proofs.plain.ascii_run.Given as goal
 
 abbrev pub invariant-loop-at : goal.invariant-loop-at

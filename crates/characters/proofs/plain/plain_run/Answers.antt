@@ -1,13 +1,12 @@
 use mathlib.Core.Path.{refl}
 use mathlib.Core.List.{List, []}
-use Prim.Native.Nat.{ℕ, ◌+◌, ◌-◌, ◌≤◌}
+use Prim.Native.Nat.{ℕ, ◌+◌, ◌≤◌}
 use native.Mathlib.Omega.{arith}
-use borrow.Author.Rules.{rules}
 use borrow.Author.Tests.{ltb-true}
 use lib.ListN.{length, drop, get_or, length-drop}
 use Rattle.characters.specs.Columns.{str_width}
 use Rattle.characters.specs.Utf8.{text_bytes}
-use Rattle.characters.specs.Plain.{least_plain, PlainFront, PlainRun}
+use Rattle.characters.specs.Plain.{least_plain, PlainFront}
 use Rattle.characters.proofs.Runs.{run_ascii, run_three, front_size, front_at}
 use Rattle.characters.proofs.plain.plain_run.Goals as goal
 

@@ -2,7 +2,6 @@
 -- Assumes nothing.
 use mathlib.Core.Path.{sym}
 use native.Mathlib.Omega.{arith}
-use borrow.Author.Rules.{rules}
 use Rattle.characters.proofs.RoundTrip.{decode_ascii, decode_empty}
 use Rattle.characters.proofs.utf8.decode.Goals as goal
 

@@ -4,7 +4,6 @@ use borrow.Author.Tests.{lt-leb, lt-ltb, le-ltb, eq-eqb, ne_eqb}
 use native.Mathlib.Omega.{arith}
 use Rattle.characters.proofs.Forms.{by_len, by_length, by_length_lem, by_first}
 use lib.ListN.{length}
-use borrow.Author.Rules.{rules}
 use Rattle.characters.proofs.utf8.decode_form.Goals as goal
 
 pub returns-then-n-eq0 : goal.returns-then-n-eq0

@@ -3,7 +3,6 @@
 use mathlib.Core.Path.{◌∙◌}
 use native.Mathlib.Omega.{arith}
 use Rattle.checks.proofs.SheetLaws.{many_cells, few_cells}
-use borrow.Author.Rules.{rules}
 use Rattle.checks.proofs.cells.cells_refusal.Goals as goal
 
 pub returns-then-count_fields-gt16 : goal.returns-then-count_fields-gt16

@@ -3,7 +3,6 @@
 use mathlib.Core.Path.{◌∙◌}
 use native.Mathlib.Omega.{arith}
 use Rattle.checks.proofs.SheetLaws.{many_plain, few_plain}
-use borrow.Author.Rules.{rules}
 use Rattle.checks.proofs.cells.plain_cells_refusal.Goals as goal
 
 pub returns-then-count_fields-gt16 : goal.returns-then-count_fields-gt16

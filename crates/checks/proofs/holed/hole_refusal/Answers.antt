@@ -5,7 +5,6 @@ use native.Mathlib.Omega.{arith}
 use lib.ListN.{length}
 use Prim.Native.Nat.{◌≤◌}
 use Rattle.checks.proofs.HoleLaws.{hole_refused, hole_name, text_size, hole_text}
-use borrow.Author.Rules.{rules}
 use Rattle.checks.proofs.holed.hole_refusal.Goals as goal
 
 pub returns-then-n-ne0 : goal.returns-then-n-ne0

@@ -3,7 +3,6 @@
 use mathlib.Core.Path.{sym, ◌∙◌}
 use native.Mathlib.Omega.{arith}
 use Rattle.checks.proofs.HoleLaws.{short_holed, bare_holed, crooked_holed, right_holed}
-use borrow.Author.Rules.{rules}
 use Rattle.checks.proofs.holed.holed_refusal.Goals as goal
 
 pub returns-then-content-lt3 : goal.returns-then-content-lt3

@@ -1,14 +1,8 @@
-use Prim.Native.Nat.{◌-◌}
 use mathlib.Core.Path.{subst}
 use native.Mathlib.Omega.{arith}
-use lib.ListN.{length, drop}
-use Rattle.fields.specs.Spans.{raw_holes}
-use Rattle.fields.specs.SpanRefusals.{holes_refusal}
 use Rattle.places.specs.Hole.{HoleIn, RawAt}
-use Rattle.places.specs.declared.hole.HoleAt.TheVariants.{At}
 use Rattle.fields.proofs.Parts.{part_length}
-use Rattle.checks.proofs.HoleLaws.{HoleWalk, holes_start, holes_on, holes_broken, holes_end}
-use borrow.Author.Rules.{rules}
+use Rattle.checks.proofs.HoleLaws.{holes_start, holes_on, holes_broken, holes_end}
 use Rattle.checks.proofs.holed.holes_refusal.Goals as goal
 
 pub loop-place-init : goal.loop-place-init

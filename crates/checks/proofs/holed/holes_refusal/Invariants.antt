@@ -1,15 +1,10 @@
 -- `holed::holes_refusal` meets its contract: the refusal so far and those of the holes left give that of all.
 -- Assumes nothing.
 use Prim.Native.Nat.{◌-◌}
-use native.Mathlib.Omega.{arith}
 use lib.ListN.{length, drop}
 use Rattle.fields.specs.Spans.{raw_holes}
 use Rattle.fields.specs.SpanRefusals.{holes_refusal}
-use Rattle.places.specs.Hole.{HoleIn, RawAt}
-use Rattle.places.specs.declared.hole.HoleAt.TheVariants.{At}
-use Rattle.fields.proofs.Parts.{part_length}
-use Rattle.checks.proofs.HoleLaws.{HoleWalk, holes_start, holes_on, holes_broken, holes_end}
-use borrow.Author.Rules.{rules}
+use Rattle.checks.proofs.HoleLaws.{HoleWalk}
 use Rattle.checks.proofs.holed.holes_refusal.Given as goal
 
 abbrev pub invariant-loop-place : goal.invariant-loop-place

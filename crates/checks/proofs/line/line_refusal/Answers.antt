@@ -2,7 +2,6 @@
 -- Assumes nothing.
 use mathlib.Core.Path.{◌∙◌}
 use Rattle.checks.proofs.LineLaws.{text_line, border_line, no_line}
-use borrow.Author.Rules.{rules}
 use Rattle.checks.proofs.line.line_refusal.Goals as goal
 
 pub returns-then-letter-eq76 : goal.returns-then-letter-eq76

@@ -1,16 +1,14 @@
 use mathlib.Core.Path.{sym, ◌∙◌}
-use Prim.Native.Nat.{◌-◌}
 use native.Mathlib.Omega.{arith}
-use lib.ListN.{length, length-drop}
-use Rattle.fields.specs.Field.{raws, Short}
+use lib.ListN.{length-drop}
+use Rattle.fields.specs.Field.{Short}
 use Rattle.fields.specs.declared.field.Field.TheVariants.{At}
 use Rattle.fields.proofs.Fields.{FieldIs, field_is, field_broken, field_end}
-use Rattle.fields.proofs.First.{Walk, walk_start, walk_on, walk_broken, walk_end_lem}
+use Rattle.fields.proofs.First.{walk_start, walk_on, walk_broken, walk_end_lem}
 use Rattle.fields.proofs.Parts.{part_length}
 use Rattle.fields.proofs.Texts.{rest}
-use Rattle.fields.specs.SpanRefusals.{line_refusal, lines_refusal}
+use Rattle.fields.specs.SpanRefusals.{lines_refusal}
 use Rattle.checks.proofs.LineLaws.{broken_line}
-use borrow.Author.Rules.{rules}
 use Rattle.checks.proofs.line.lines_refusal.Goals as goal
 
 pub loop-letter-init : goal.loop-letter-init

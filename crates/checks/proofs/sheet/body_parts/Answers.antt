@@ -3,7 +3,6 @@
 use mathlib.Core.Path.{sym}
 use lib.Seq.{length-take-le}
 use Rattle.checks.proofs.SplitLaws.{two_splits}
-use borrow.Author.Rules.{rules}
 use Rattle.checks.proofs.sheet.body_parts.Goals as goal
 
 pub slice_bounds-split_fields-end : goal.slice_bounds-split_fields-end

@@ -5,7 +5,6 @@ use native.Mathlib.Omega.{arith}
 use lib.Seq.{length-take-le}
 use Rattle.fields.specs.First.{first_of}
 use Rattle.checks.proofs.SheetLaws.{wrong_count, right_count}
-use borrow.Author.Rules.{rules}
 use Rattle.checks.proofs.sheet.counted_refusal.Goals as goal
 
 pub returns-then-found-count : goal.returns-then-found-count

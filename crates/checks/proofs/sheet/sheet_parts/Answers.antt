@@ -2,7 +2,6 @@
 -- Assumes nothing.
 use native.Mathlib.Omega.{arith}
 use Rattle.checks.proofs.SheetLaws.{short_sheet, parts_in, finds_parts}
-use borrow.Author.Rules.{rules}
 use Rattle.checks.proofs.sheet.sheet_parts.Goals as goal
 
 pub returns-then-s-lt5 : goal.returns-then-s-lt5

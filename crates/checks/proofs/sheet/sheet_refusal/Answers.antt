@@ -3,7 +3,6 @@
 use mathlib.Core.Path.{◌∙◌}
 use native.Mathlib.Omega.{arith}
 use Rattle.checks.proofs.SheetLaws.{no_head, headed_sheet}
-use borrow.Author.Rules.{rules}
 use Rattle.checks.proofs.sheet.sheet_refusal.Goals as goal
 
 pub returns-then-s-lt5 : goal.returns-then-s-lt5

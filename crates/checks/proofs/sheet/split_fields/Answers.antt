@@ -1,12 +1,10 @@
 use mathlib.Core.Path.{◌≡◌, sym, ◌∙◌}
-use Prim.Native.Nat.{◌-◌}
 use native.Mathlib.Omega.{arith}
-use lib.ListN.{length, drop}
+use lib.ListN.{drop}
 use Rattle.fields.specs.Field.{field_at}
 use Rattle.fields.specs.declared.field.Field.TheVariants.{At}
 use Rattle.fields.proofs.Fields.{field_is, field_broken, field_end}
-use Rattle.checks.proofs.SplitLaws.{Passed, pass_start, pass_on, pass_letter, pass_end, pass_broken}
-use borrow.Author.Rules.{rules}
+use Rattle.checks.proofs.SplitLaws.{pass_start, pass_on, pass_letter, pass_end, pass_broken}
 use Rattle.checks.proofs.sheet.split_fields.Goals as goal
 
 pub loop-letter-init : goal.loop-letter-init

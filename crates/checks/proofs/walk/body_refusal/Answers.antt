@@ -4,7 +4,6 @@ use mathlib.Core.Path.{ap, ◌∙◌}
 use Prim.Native.Nat.{ℕ}
 use Rattle.fields.specs.First.{first_of}
 use Rattle.checks.proofs.LineLaws.{wide_body, narrow_body}
-use borrow.Author.Rules.{rules}
 use Rattle.checks.proofs.walk.body_refusal.Goals as goal
 
 pub returns-then-width-eq0 : goal.returns-then-width-eq0

@@ -2,7 +2,6 @@
 -- Assumes nothing.
 use mathlib.Core.Path.{sym, ◌∙◌}
 use Rattle.checks.proofs.LineLaws.{no_span, short_span, wrong_span, span_body}
-use borrow.Author.Rules.{rules}
 use Rattle.checks.proofs.walk.cell_refusal.Goals as goal
 
 pub returns-then-letter-ne75 : goal.returns-then-letter-ne75

@@ -1,6 +1,5 @@
 -- `walk::field_refusal` meets its contract, kind by kind.
 -- Assumes nothing.
-use borrow.Author.Rules.{rules}
 use Rattle.checks.proofs.walk.field_refusal.Goals as goal
 
 pub returns-in-Cells : goal.returns-in-Cells

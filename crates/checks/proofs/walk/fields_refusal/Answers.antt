@@ -1,15 +1,10 @@
 use mathlib.Core.Path.{sym, ◌∙◌}
-use Prim.Native.Nat.{◌-◌}
 use native.Mathlib.Omega.{arith}
-use lib.ListN.{length, length-drop}
-use Rattle.fields.specs.Field.{raws}
-use Rattle.fields.specs.First.{first_over}
+use lib.ListN.{length-drop}
 use Rattle.fields.proofs.Fields.{FieldIs, field_is, field_broken, field_end}
-use Rattle.fields.proofs.First.{Walk, walk_start, walk_on, walk_broken, walk_end_lem}
+use Rattle.fields.proofs.First.{walk_start, walk_on, walk_broken, walk_end_lem}
 use Rattle.fields.proofs.Texts.{rest}
-use Rattle.checks.specs.Walk.{refusal_in}
 use Rattle.checks.proofs.LineLaws.{broken_in}
-use borrow.Author.Rules.{rules}
 use Rattle.checks.proofs.walk.fields_refusal.Goals as goal
 
 pub loop-letter-init : goal.loop-letter-init

@@ -1,17 +1,10 @@
 -- `walk::fields_refusal` meets its contract: the refusal so far and those of the fields left give that of all.
 -- Assumes nothing.
-use mathlib.Core.Path.{sym, ◌∙◌}
-use Prim.Native.Nat.{◌-◌}
-use native.Mathlib.Omega.{arith}
-use lib.ListN.{length, length-drop}
+use lib.ListN.{length}
 use Rattle.fields.specs.Field.{raws}
 use Rattle.fields.specs.First.{first_over}
-use Rattle.fields.proofs.Fields.{FieldIs, field_is, field_broken, field_end}
-use Rattle.fields.proofs.First.{Walk, walk_start, walk_on, walk_broken, walk_end_lem}
-use Rattle.fields.proofs.Texts.{rest}
+use Rattle.fields.proofs.First.{Walk}
 use Rattle.checks.specs.Walk.{refusal_in}
-use Rattle.checks.proofs.LineLaws.{broken_in}
-use borrow.Author.Rules.{rules}
 use Rattle.checks.proofs.walk.fields_refusal.Given as goal
 
 abbrev pub invariant-loop-letter : goal.invariant-loop-letter

@@ -2,7 +2,6 @@
 -- Assumes nothing.
 use mathlib.Core.Path.{sym, ◌∙◌}
 use Rattle.checks.proofs.LineLaws.{no_hanging, short_hanging, wrong_rows, hanging_body}
-use borrow.Author.Rules.{rules}
 use Rattle.checks.proofs.walk.hanging_refusal.Goals as goal
 
 pub returns-then-letter-ne86 : goal.returns-then-letter-ne86

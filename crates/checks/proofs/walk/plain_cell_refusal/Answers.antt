@@ -2,7 +2,6 @@
 -- Assumes nothing.
 use mathlib.Core.Path.{◌∙◌}
 use Rattle.checks.proofs.LineLaws.{no_plain, short_plain, plain_body}
-use borrow.Author.Rules.{rules}
 use Rattle.checks.proofs.walk.plain_cell_refusal.Goals as goal
 
 pub returns-then-letter-ne67 : goal.returns-then-letter-ne67

@@ -1,10 +1,8 @@
 use mathlib.Core.Path.{sym, ◌∙◌}
-use Prim.Native.Nat.{◌-◌}
 use native.Mathlib.Omega.{arith}
 use borrow.Author.Rules.{rules}
-use lib.ListN.{length}
 use Rattle.fields.proofs.Fields.{FieldIs, field_is, field_broken, field_end}
-use Rattle.extend_lines.proofs.Copying.{Walk, walk_start, walk_on, walk_broken, walk_end_lem, content_short}
+use Rattle.extend_lines.proofs.Copying.{walk_start, walk_on, walk_broken, walk_end_lem, content_short}
 use Rattle.extend_lines.proofs.copy.copy_lines.Goals as goal
 
 pub loop-letter-init : goal.loop-letter-init

@@ -1,12 +1,8 @@
 -- `extend_lines::copy::copy_lines` meets its contract: what is copied so far, and the fields left, give the lines of the whole.
 -- Assumes nothing.
-use mathlib.Core.Path.{sym, ◌∙◌}
 use Prim.Native.Nat.{◌-◌}
-use native.Mathlib.Omega.{arith}
-use borrow.Author.Rules.{rules}
 use lib.ListN.{length}
-use Rattle.fields.proofs.Fields.{FieldIs, field_is, field_broken, field_end}
-use Rattle.extend_lines.proofs.Copying.{Walk, walk_start, walk_on, walk_broken, walk_end_lem, content_short}
+use Rattle.extend_lines.proofs.Copying.{Walk}
 use Rattle.extend_lines.proofs.copy.copy_lines.Given as goal
 
 abbrev pub invariant-loop-letter : goal.invariant-loop-letter

@@ -2,7 +2,6 @@
 -- Assumes nothing.
 use mathlib.Core.Path.{refl}
 use native.Mathlib.Omega.{arith}
-use borrow.Author.Rules.{rules}
 use Rattle.extend_lines.proofs.Handing.{bytes_known}
 use Rattle.extend_lines.proofs.Emitting.{hands_on}
 use Rattle.extend_lines.proofs.copy.hand_on.Goals as goal

@@ -2,7 +2,6 @@
 -- Assumes nothing.
 use mathlib.Core.Path.{refl}
 use native.Mathlib.Omega.{arith}
-use borrow.Author.Rules.{rules}
 use Rattle.extend_lines.proofs.Handing.{bytes_known}
 use Rattle.extend_lines.proofs.Naming.{begins}
 use Rattle.extend_lines.proofs.line.begin_line.Goals as goal

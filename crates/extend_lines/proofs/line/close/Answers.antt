@@ -1,6 +1,5 @@
 -- `extend_lines::line::close` meets its contract: refusal 7, then 9, then the head in front of the lines or refusal 8.
 -- Assumes nothing.
-use borrow.Author.Rules.{rules}
 use Rattle.extend_lines.proofs.Emitting.{closes_long, closes_many, closes_lines}
 use Rattle.extend_lines.proofs.line.close.Goals as goal
 

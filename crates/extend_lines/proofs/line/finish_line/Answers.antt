@@ -1,9 +1,8 @@
 -- `extend_lines::line::finish_line` meets its contract: the head in front of the line's content.
 -- Assumes nothing.
-use mathlib.Core.Logic.{inl, inr, ⊎_elim}
+use mathlib.Core.Logic.{inl, inr}
 use mathlib.Core.Path.{refl}
 use native.Mathlib.Omega.{arith}
-use borrow.Author.Rules.{rules}
 use Rattle.extend_lines.proofs.Emitting.{ends}
 use Rattle.extend_lines.proofs.line.finish_line.Goals as goal
 use Rattle.extend_lines.proofs.line.finish_line.Goals.{then-lines, else-lines}

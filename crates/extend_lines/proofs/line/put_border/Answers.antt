@@ -1,9 +1,8 @@
 -- `extend_lines::line::put_border` meets its contract: a B field after the lines.
 -- Assumes nothing.
-use mathlib.Core.Logic.{inl, inr, ⊎_elim}
+use mathlib.Core.Logic.{inl, inr}
 use mathlib.Core.Path.{refl}
 use native.Mathlib.Omega.{arith}
-use borrow.Author.Rules.{rules}
 use Rattle.extend_lines.proofs.Emitting.{puts_border}
 use Rattle.extend_lines.proofs.line.put_border.Goals as goal
 use Rattle.extend_lines.proofs.line.put_border.Goals.{then-lines, else-lines}

@@ -1,13 +1,8 @@
 -- `fields::answer::clear` meets its contract. Its loop has zeroed the first `i` bytes. Assumes nothing.
-use mathlib.Core.Path.{◌≡◌, ap, ◌∙◌}
-use mathlib.Core.List.{List}
-use Prim.Native.Nat.{ℕ, ◌-◌, ◌≤◌, ◌<◌}
-use native.Mathlib.Nat.{zero-add}
-use native.Mathlib.Omega.{arith}
-use lib.ListN.{length, take, replicate, length-replicate}
-use lib.Seq.{sets, take_all}
-use Rattle.fields.proofs.Sets.{sets_repeat, sets_whole}
-use borrow.Author.Rules.{rules}
+use mathlib.Core.Path.{◌≡◌}
+use Prim.Native.Nat.{◌-◌, ◌≤◌}
+use lib.ListN.{length, take, replicate}
+use lib.Seq.{sets}
 use Rattle.fields.proofs.answer.clear.Given as goal
 
 abbrev pub invariant-loop-i : goal.invariant-loop-i

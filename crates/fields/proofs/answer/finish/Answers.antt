@@ -1,6 +1,5 @@
 -- `fields::answer::finish` meets its contract: the head in front of the lines, or the store zeroed.
 -- Assumes nothing.
-use borrow.Author.Rules.{rules}
 use Rattle.fields.proofs.Finishing.{finishes_sheet, finishes_short}
 use Rattle.fields.proofs.answer.finish.Goals as goal
 

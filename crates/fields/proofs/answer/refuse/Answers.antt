@@ -1,6 +1,5 @@
 -- `fields::answer::refuse` meets its contract: the number, and the store zeroed.
 -- Assumes nothing.
-use borrow.Author.Rules.{rules}
 use Rattle.fields.proofs.Finishing.{refuses}
 use Rattle.fields.proofs.answer.refuse.Goals as goal
 

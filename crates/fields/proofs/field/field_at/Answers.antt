@@ -1,7 +1,6 @@
 -- `fields::field::field_at` meets its contract: each answer is the definition's at the bytes from the place on.
 -- Assumes nothing.
 use native.Mathlib.Omega.{arith}
-use borrow.Author.Rules.{rules}
 use Rattle.fields.proofs.Fields.{at_end_lem, at_short, at_cut, at_field}
 use Rattle.fields.proofs.field.field_at.Goals as goal
 

@@ -1,10 +1,8 @@
 use mathlib.Core.Path.{sym, ◌∙◌}
-use Prim.Native.Nat.{◌+◌, ◌-◌}
+use Prim.Native.Nat.{◌+◌}
 use native.Mathlib.Omega.{arith}
-use lib.ListN.{length}
 use Rattle.fields.proofs.Fields.{FieldIs, field_is, field_broken, field_end}
 use Rattle.fields.proofs.Jobs.{Sum, sum_start, sum_on, sum_broken, sum_end}
-use borrow.Author.Rules.{rules}
 use Rattle.fields.proofs.job.body_units.Goals as goal
 
 pub loop-letter-init : goal.loop-letter-init

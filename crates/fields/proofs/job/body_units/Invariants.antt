@@ -1,12 +1,8 @@
 -- `fields::job::body_units` meets its contract: the units so far and those of the fields left make up the whole number.
 -- Assumes nothing.
-use mathlib.Core.Path.{sym, ◌∙◌}
-use Prim.Native.Nat.{◌+◌, ◌-◌}
-use native.Mathlib.Omega.{arith}
+use Prim.Native.Nat.{◌-◌}
 use lib.ListN.{length}
-use Rattle.fields.proofs.Fields.{FieldIs, field_is, field_broken, field_end}
-use Rattle.fields.proofs.Jobs.{Sum, sum_start, sum_on, sum_broken, sum_end}
-use borrow.Author.Rules.{rules}
+use Rattle.fields.proofs.Jobs.{Sum}
 use Rattle.fields.proofs.job.body_units.Given as goal
 
 abbrev pub invariant-loop-letter : goal.invariant-loop-letter

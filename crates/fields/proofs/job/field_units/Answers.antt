@@ -2,7 +2,6 @@
 -- Assumes nothing.
 use native.Mathlib.Omega.{arith}
 use Rattle.fields.proofs.Jobs.{name_units, other_units, short_units, mode_units, text_units}
-use borrow.Author.Rules.{rules}
 use Rattle.fields.proofs.job.field_units.Goals as goal
 
 pub returns-then-letter-eq70 : goal.returns-then-letter-eq70

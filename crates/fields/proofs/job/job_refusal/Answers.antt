@@ -9,7 +9,6 @@ use Rattle.fields.specs.Field.{raws}
 use Rattle.fields.specs.Job.{head_in, head_of, body_units}
 use Rattle.fields.specs.Refusals.{job_refusal}
 use Rattle.fields.proofs.Jobs.{head_is, in_order, order_wrong, order_narrow, order_unread, order_long, order_good, job_block, job_headless}
-use borrow.Author.Rules.{rules}
 use Rattle.fields.proofs.job.job_refusal.Goals as goal
 
 pub slice_bounds-body-count : goal.slice_bounds-body-count

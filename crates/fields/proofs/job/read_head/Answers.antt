@@ -3,7 +3,6 @@
 use mathlib.Core.Path.{sym, ◌∙◌}
 use native.Mathlib.Omega.{arith}
 use Rattle.fields.proofs.Jobs.{head_none, head_three, high_none, good_setup}
-use borrow.Author.Rules.{rules}
 use Rattle.fields.proofs.job.read_head.Goals as goal
 
 pub returns-then-job-lt6 : goal.returns-then-job-lt6

@@ -1,9 +1,6 @@
 use mathlib.Core.Path.{refl}
-use Prim.Native.Nat.{◌-◌}
 use native.Mathlib.Omega.{arith}
-use borrow.Author.Rules.{rules}
-use lib.ListN.{length}
-use Rattle.fields.proofs.Sheets.{Segments, segment_on, segment_off, segment_end}
+use Rattle.fields.proofs.Sheets.{segment_on, segment_off, segment_end}
 use Rattle.fields.proofs.judge.all_segments.Goals as goal
 
 pub loop-i-init : goal.loop-i-init

@@ -1,11 +1,8 @@
 -- `fields::judge::all_segments` meets its contract: the bytes behind are segments, and those left decide.
 -- Assumes nothing.
-use mathlib.Core.Path.{refl}
 use Prim.Native.Nat.{◌-◌}
-use native.Mathlib.Omega.{arith}
-use borrow.Author.Rules.{rules}
 use lib.ListN.{length}
-use Rattle.fields.proofs.Sheets.{Segments, segment_on, segment_off, segment_end}
+use Rattle.fields.proofs.Sheets.{Segments}
 use Rattle.fields.proofs.judge.all_segments.Given as goal
 
 abbrev pub invariant-loop-i : goal.invariant-loop-i

@@ -2,7 +2,6 @@
 -- Assumes nothing.
 use mathlib.Core.Path.{sym, ◌∙◌}
 use mathlib.Core.Bool.{true, false}
-use borrow.Author.Rules.{rules}
 use Rattle.fields.proofs.Sheets.{border_line, short_border}
 use Rattle.fields.proofs.judge.border_refusal.Goals as goal
 

@@ -2,7 +2,6 @@
 -- Assumes nothing.
 use mathlib.Core.Path.{◌∙◌}
 use native.Mathlib.Omega.{arith}
-use borrow.Author.Rules.{rules}
 use Rattle.fields.proofs.Jobs.{name_refusal_lem, other_refusal, short_refusal, mode_refusal, text_refusal}
 use Rattle.fields.proofs.judge.job_field_refusal.Goals as goal
 

@@ -1,7 +1,6 @@
 -- `fields::judge::name_refusal` meets its contract, case by case of its test.
 -- Assumes nothing.
 use mathlib.Core.Path.{◌∙◌}
-use borrow.Author.Rules.{rules}
 use Rattle.fields.proofs.Sheets.{waiting, no_waiting}
 use Rattle.fields.proofs.judge.name_refusal.Goals as goal
 

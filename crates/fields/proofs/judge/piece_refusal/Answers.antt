@@ -2,7 +2,6 @@
 -- Assumes nothing.
 use mathlib.Core.Path.{◌∙◌}
 use native.Mathlib.Omega.{arith}
-use borrow.Author.Rules.{rules}
 use Rattle.fields.proofs.Sheets.{name_piece, text_piece, short_piece, no_piece}
 use Rattle.fields.proofs.judge.piece_refusal.Goals as goal
 

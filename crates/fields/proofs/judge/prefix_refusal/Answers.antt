@@ -1,7 +1,6 @@
 -- `fields::judge::prefix_refusal` meets its contract, case by case of its test.
 -- Assumes nothing.
 use mathlib.Core.Path.{◌∙◌}
-use borrow.Author.Rules.{rules}
 use Rattle.fields.proofs.Sheets.{prefix, no_prefix_lem}
 use Rattle.fields.proofs.judge.prefix_refusal.Goals as goal
 

@@ -1,7 +1,6 @@
 -- `fields::prefixes::prefixes_refusal` meets its contract: the refusal of its fields is that of the whole.
 -- Assumes nothing.
 use mathlib.Core.Path.{◌∙◌}
-use borrow.Author.Rules.{rules}
 use Rattle.fields.proofs.Sheets.{prefixes_all}
 use Rattle.fields.proofs.prefixes.prefixes_refusal.Goals as goal
 

@@ -1,7 +1,6 @@
 -- `store::put_byte` meets its contract: past the end `set` changes nothing. Assumes nothing.
 use mathlib.Core.Path.{refl, sym}
 use lib.Seq.{set_out}
-use borrow.Author.Rules.{rules}
 use Rattle.fields.proofs.store.put_byte.Goals as goal
 
 pub returns : goal.returns

@@ -1,8 +1,5 @@
-use mathlib.Core.Path.{◌≡◌, refl, ◌∙◌}
-use Prim.Native.Nat.{◌-◌, ◌≤◌}
+use mathlib.Core.Path.{refl, ◌∙◌}
 use native.Mathlib.Omega.{arith}
-use lib.ListN.{length, take}
-use lib.Seq.{sets}
 use Rattle.fields.proofs.Sets.{sets_next, sets_room}
 use borrow.Author.Rules.{rules}
 use Rattle.fields.proofs.store.put_bytes.Goals as goal

@@ -1,11 +1,8 @@
 -- `store::put_bytes` meets its contract. Its loop has stored the first `i` bytes; those past the store's end are dropped. Assumes nothing.
-use mathlib.Core.Path.{◌≡◌, refl, ◌∙◌}
+use mathlib.Core.Path.{◌≡◌}
 use Prim.Native.Nat.{◌-◌, ◌≤◌}
-use native.Mathlib.Omega.{arith}
 use lib.ListN.{length, take}
 use lib.Seq.{sets}
-use Rattle.fields.proofs.Sets.{sets_next, sets_room}
-use borrow.Author.Rules.{rules}
 use Rattle.fields.proofs.store.put_bytes.Given as goal
 
 abbrev pub invariant-loop-i : goal.invariant-loop-i

@@ -1,7 +1,6 @@
 -- `store::put_field` meets its contract: the head's write and the content's are one. Assumes nothing.
 use Rattle.fields.specs.Field.{field}
 use Rattle.fields.proofs.Sets.{wrote_then}
-use borrow.Author.Rules.{rules}
 use Rattle.fields.proofs.store.put_field.Goals as goal
 
 pub returns : goal.returns

@@ -4,7 +4,6 @@ use Prim.Native.Nat.{◌/◌, ◌%◌}
 use native.Mathlib.Omega.{arith}
 use lib.ListN.{length-set}
 use Rattle.fields.proofs.Sets.{sets_three, wrote_then}
-use borrow.Author.Rules.{rules}
 use Rattle.fields.proofs.store.put_head.Goals as goal
 
 pub bounds-out-at-then-at-out : goal.bounds-out-at-then-at-out

@@ -1,8 +1,6 @@
-use mathlib.Core.Path.{◌≡◌, ◌∙◌}
-use Prim.Native.Nat.{◌-◌, ◌≤◌}
+use mathlib.Core.Path.{◌∙◌}
 use native.Mathlib.Omega.{arith}
-use lib.ListN.{length, take, replicate, length-replicate}
-use lib.Seq.{sets}
+use lib.ListN.{replicate, length-replicate}
 use Rattle.fields.proofs.Sets.{sets_repeat, sets_room}
 use borrow.Author.Rules.{rules}
 use Rattle.fields.proofs.store.put_repeat.Goals as goal

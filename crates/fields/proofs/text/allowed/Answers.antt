@@ -1,7 +1,6 @@
 -- `fields::text::allowed` meets its contract: a control, a character with columns, and one off the list.
 -- Assumes nothing.
 use mathlib.Core.Path.{sym, ◌∙◌}
-use borrow.Author.Rules.{rules}
 use Rattle.fields.proofs.Texts.{control_allowed, cols_allowed, off_list}
 use Rattle.fields.proofs.text.allowed.Goals as goal
 

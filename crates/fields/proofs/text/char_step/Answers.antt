@@ -2,7 +2,6 @@
 -- Assumes nothing.
 use mathlib.Core.Path.{sym, ◌∙◌}
 use native.Mathlib.Omega.{arith}
-use borrow.Author.Rules.{rules}
 use Rattle.characters.proofs.RoundTrip.{decode_size}
 use Rattle.fields.proofs.Texts.{text_nil, text_on, text_off, text_bad}
 use Rattle.fields.proofs.text.char_step.Goals as goal

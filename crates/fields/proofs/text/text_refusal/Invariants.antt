@@ -1,14 +1,9 @@
 -- `fields::text::text_refusal` meets its contract: what is left to read, past a run and past a character, is as good as the whole text.
 -- Assumes nothing.
-use mathlib.Core.Path.{◌≡◌, refl, sym, ap, subst, ◌∙◌}
-use mathlib.Core.List.{List}
-use Prim.Native.Nat.{ℕ, ◌+◌, ◌-◌, ◌≤◌}
-use native.Mathlib.Omega.{arith}
-use borrow.Author.Rules.{rules}
+use mathlib.Core.Path.{◌≡◌}
+use Prim.Native.Nat.{◌-◌, ◌≤◌}
 use lib.ListN.{length, drop}
-use Rattle.fields.specs.First.{unless}
-use Rattle.fields.specs.Text.{readable_text, TextStep}
-use Rattle.fields.proofs.Texts.{Left, past_run, Onward, onward, answer}
+use Rattle.fields.specs.Text.{readable_text}
 use Rattle.fields.proofs.text.text_refusal.Given as goal
 
 abbrev pub invariant-loop-k : goal.invariant-loop-k

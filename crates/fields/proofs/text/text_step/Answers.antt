@@ -2,7 +2,6 @@
 -- Assumes nothing.
 use Prim.Native.Nat.{◌<◌}
 use native.Mathlib.Omega.{arith}
-use borrow.Author.Rules.{rules}
 use borrow.Author.Tests.{leb-true}
 use lib.ListN.{length, get_or}
 use Rattle.fields.proofs.Texts.{text_nil, text_kept}

@@ -1,10 +1,7 @@
-use mathlib.Core.Path.{◌≡◌, sym, ap, ◌∙◌}
-use Prim.Native.Nat.{◌+◌, ◌*◌, ◌-◌, ◌≤◌}
+use mathlib.Core.Path.{sym, ap, ◌∙◌}
 use native.Mathlib.Nat.{zero-add}
 use native.Mathlib.Omega.{arith}
-use borrow.Author.Rules.{rules}
-use lib.ListN.{length, drop}
-use Rattle.fields.specs.Field.{raws}
+use lib.ListN.{length}
 use Rattle.fields.proofs.Fields.{FieldIs, field_is, field_broken, field_end}
 use Rattle.fields.proofs.walk.count_fields.Goals as goal
 

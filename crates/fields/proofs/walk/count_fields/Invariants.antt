@@ -1,13 +1,9 @@
 -- `fields::walk::count_fields` meets its contract: the fields behind and those left make up the whole number.
 -- Assumes nothing.
-use mathlib.Core.Path.{◌≡◌, sym, ap, ◌∙◌}
+use mathlib.Core.Path.{◌≡◌}
 use Prim.Native.Nat.{◌+◌, ◌*◌, ◌-◌, ◌≤◌}
-use native.Mathlib.Nat.{zero-add}
-use native.Mathlib.Omega.{arith}
-use borrow.Author.Rules.{rules}
 use lib.ListN.{length, drop}
 use Rattle.fields.specs.Field.{raws}
-use Rattle.fields.proofs.Fields.{FieldIs, field_is, field_broken, field_end}
 use Rattle.fields.proofs.walk.count_fields.Given as goal
 
 abbrev pub invariant-loop-next : goal.invariant-loop-next

@@ -1,6 +1,5 @@
 -- `fields::walk::field_refusal` meets its contract, kind by kind.
 -- Assumes nothing.
-use borrow.Author.Rules.{rules}
 use Rattle.fields.proofs.walk.field_refusal.Goals as goal
 
 pub returns-in-Job : goal.returns-in-Job

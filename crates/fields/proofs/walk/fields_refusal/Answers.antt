@@ -1,10 +1,7 @@
 use mathlib.Core.Path.{◌≡◌, refl, sym, ◌∙◌}
-use Prim.Native.Nat.{ℕ, ◌-◌}
 use native.Mathlib.Omega.{arith}
-use borrow.Author.Rules.{rules}
-use lib.ListN.{length, length-drop}
-use Rattle.fields.specs.Field.{broken, raws}
-use Rattle.fields.specs.First.{first_over}
+use lib.ListN.{length-drop}
+use Rattle.fields.specs.Field.{broken}
 use Rattle.fields.specs.Job.{read_field}
 use Rattle.fields.specs.Sheet.{read_piece, read_prefix}
 use Rattle.fields.specs.Spans.{read_name}
@@ -12,7 +9,7 @@ use Rattle.fields.specs.Walk.{field_refusal, piece_refusal, prefix_refusal, name
 use Rattle.fields.specs.declared.walk.Kind.{Kind}
 use Rattle.fields.specs.declared.walk.Kind.TheVariants.{Job, Pieces, Prefixes, Names}
 use Rattle.fields.proofs.Fields.{FieldIs, field_is, field_broken, field_end}
-use Rattle.fields.proofs.First.{Walk, walk_start, walk_on, walk_broken, walk_end_lem}
+use Rattle.fields.proofs.First.{walk_start, walk_on, walk_broken, walk_end_lem}
 use Rattle.fields.proofs.Texts.{rest}
 use Rattle.fields.proofs.walk.fields_refusal.Goals as goal
 

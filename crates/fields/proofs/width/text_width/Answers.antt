@@ -1,7 +1,6 @@
 -- `width::text_width` meets its contract: where the whole text is one run, the run's columns are the text's.
 -- Assumes nothing.
 use native.Mathlib.Omega.{arith}
-use borrow.Author.Rules.{rules}
 use Rattle.fields.proofs.Counting.{run_width}
 use Rattle.fields.proofs.width.text_width.Goals as goal
 

@@ -8,22 +8,28 @@ use Rattle.flush_word.proofs.space.keep_pre.Goals as goal
 
 pub returns-then-left-blanks : goal.returns-then-left-blanks
 returns-then-left-blanks c =
-    record { dropping = record {
+    record {
+      dropping = record {
         n = omega arith;
         cols = c.requires.counts_within_units.0.cols;
         count = omega arith;
         closes = omega arith;
         place = search rules;
         lines = search rules;
-      }; keeps_pre = λ d₀ base b t wb wt out o q. pre_kept c.args.frame c.args.st d₀ base b t _ _ wb wt out o q c.if-left-blanks.true }
+      };
+      keeps_pre = λ d₀ base b t wb wt out o q. pre_kept c.args.frame c.args.st d₀ base b t _ _ wb wt out o q c.if-left-blanks.true;
+    }
 
 pub returns : goal.returns
 returns c =
-    let z = count_none c.no_blanks-none.ensures in record { dropping = record {
+    let z = count_none c.no_blanks-none.ensures in record {
+      dropping = record {
         n = omega (arith, c.push_blanks-n.ensures.value);
         cols = omega (arith, c.requires.counts_within_units.0, c.if-left-blanks.false);
         count = omega (arith, z);
         closes = omega (arith, z, c.push_blanks-n.ensures.value);
         place = refl;
         lines = refl;
-      }; keeps_pre = λ d₀ base b t wb wt out o q. pre_written c.args.frame c.args.st d₀ base b t _ _ wb wt out o q _ _ _ _ c.no_blanks-none.ensures c.if-left-blanks.false c.push_blanks-n.ensures.result_after }
+      };
+      keeps_pre = λ d₀ base b t wb wt out o q. pre_written c.args.frame c.args.st d₀ base b t _ _ wb wt out o q _ _ _ _ c.no_blanks-none.ensures c.if-left-blanks.false c.push_blanks-n.ensures.result_after;
+    }

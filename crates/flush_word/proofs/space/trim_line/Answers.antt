@@ -1,7 +1,6 @@
 -- `flush_word::space::trim_line` meets its contract: each entry that `trimmed_end` takes off is a column.
 -- Assumes nothing.
 use mathlib.Core.Path.{refl}
-use borrow.Author.Rules.{rules}
 use Rattle.hard_wrap.specs.declared.line.Open.{Open}
 use Rattle.flush_word.specs.Keep.{Trimmed}
 use Rattle.flush_word.proofs.Trimming.{line_trimmed}

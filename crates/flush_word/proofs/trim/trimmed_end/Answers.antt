@@ -1,8 +1,6 @@
-use mathlib.Core.Path.{◌≡◌, refl, ◌∙◌}
-use Prim.Native.Nat.{◌≤◌}
+use mathlib.Core.Path.{refl, ◌∙◌}
 use borrow.Author.Rules.{rules}
-use Rattle.lines.specs.Items.{items}
-use Rattle.flush_word.proofs.Trimming.{trim, back_none, back_non_space, back_name, back_space, back_done}
+use Rattle.flush_word.proofs.Trimming.{back_none, back_non_space, back_name, back_space, back_done}
 use Rattle.flush_word.proofs.trim.trimmed_end.Goals as goal
 
 pub loop-k-init : goal.loop-k-init

@@ -1,10 +1,9 @@
 -- `flush_word::trim::trimmed_end` meets its contract. The invariant: the entries up to k, trimmed, are the line's, trimmed.
 -- Assumes nothing.
-use mathlib.Core.Path.{◌≡◌, refl, ◌∙◌}
+use mathlib.Core.Path.{◌≡◌}
 use Prim.Native.Nat.{◌≤◌}
-use borrow.Author.Rules.{rules}
 use Rattle.lines.specs.Items.{items}
-use Rattle.flush_word.proofs.Trimming.{trim, back_none, back_non_space, back_name, back_space, back_done}
+use Rattle.flush_word.proofs.Trimming.{trim}
 use Rattle.flush_word.proofs.trim.trimmed_end.Given as goal
 
 abbrev pub invariant-loop-k : goal.invariant-loop-k

@@ -1,13 +1,8 @@
-use mathlib.Core.Path.{◌≡◌, refl}
-use Prim.Native.Nat.{◌-◌, ◌≤◌}
+use mathlib.Core.Path.{refl}
 use native.Mathlib.Omega.{arith}
 use borrow.Author.Rules.{rules}
-use lib.ListN.{length, drop}
-use Rattle.block.specs.Flat.{Line}
-use Rattle.lines.specs.Items.{zip}
-use Rattle.lines.specs.Bridge.{enc, Valid}
 use Rattle.hard_wrap.proofs.Walks.{part_len}
-use Rattle.flush_word.proofs.Trimming.{Rest, front_end, front_name, front_stop, front_on}
+use Rattle.flush_word.proofs.Trimming.{front_end, front_name, front_stop, front_on}
 use Rattle.fields.proofs.Texts.{rest as part-rest}
 use Rattle.flush_word.proofs.trim.white_front.Goals as goal
 

@@ -2,7 +2,6 @@
 -- Assumes nothing.
 use mathlib.Core.Path.{sym, ◌∙◌}
 use native.Mathlib.Omega.{arith}
-use borrow.Author.Rules.{rules}
 use Rattle.characters.proofs.RoundTrip.{decode_size}
 use Rattle.flush_word.proofs.Trimming.{white_is, white_not, white_bad}
 use Rattle.flush_word.proofs.trim.white_len.Goals as goal

@@ -2,7 +2,6 @@
 -- Assumes nothing.
 use mathlib.Core.Path.{refl}
 use borrow.Author.Tests.{not-true, not-false}
-use borrow.Author.Rules.{rules}
 use Rattle.flush_word.proofs.Wrapping.{flushes_nothing, flushes_fits, flushes_wraps}
 use Rattle.flush_word.proofs.word.flush_word.Goals as goal
 

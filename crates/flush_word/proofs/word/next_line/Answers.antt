@@ -1,7 +1,6 @@
 -- `flush_word::word::next_line` meets its contract: a line with entries has text (`TrimsLeaveText`) once its blanks are dropped, so it is closed, and the blanks that are left are written.
 -- Assumes nothing.
 use native.Mathlib.Omega.{arith}
-use borrow.Author.Rules.{rules}
 use Rattle.flush_word.proofs.Wrapping.{opens}
 use Rattle.flush_word.proofs.word.next_line.Goals as goal
 

@@ -1,7 +1,6 @@
 -- `flush_word::word::put_word` meets its contract: the line's entries, the blanks' and the word's stand in a row, and nothing is pending.
 -- Assumes nothing.
 use native.Mathlib.Omega.{arith}
-use borrow.Author.Rules.{rules}
 use Rattle.flush_word.proofs.Flushing.{emptied_is, keeps_same, small_opened, put_keeps}
 use Rattle.flush_word.proofs.word.put_word.Goals as goal
 

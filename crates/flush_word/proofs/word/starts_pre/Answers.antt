@@ -1,9 +1,8 @@
-use mathlib.Core.Path.{◌≡◌, refl, sym, ap, ◌∙◌}
-use Prim.Native.Nat.{ℕ, ◌-◌, ◌≤◌}
+use mathlib.Core.Path.{refl, sym, ap, ◌∙◌}
+use Prim.Native.Nat.{ℕ}
 use borrow.Author.Rules.{rules}
 use lib.Dec.{eqb}
-use lib.ListN.{length, drop}
-use Rattle.flush_word.proofs.Trimming.{first_pre, starts_pre_lem, pre_end, pre_here, pre_on}
+use Rattle.flush_word.proofs.Trimming.{starts_pre_lem, pre_end, pre_here, pre_on}
 use Rattle.flush_word.proofs.word.starts_pre.Goals as goal
 
 pub loop-i-init : goal.loop-i-init

@@ -1,11 +1,9 @@
 -- `flush_word::word::starts_pre` meets its contract. The invariant: the first text is among the entries from i on.
 -- Assumes nothing.
-use mathlib.Core.Path.{◌≡◌, refl, sym, ap, ◌∙◌}
-use Prim.Native.Nat.{ℕ, ◌-◌, ◌≤◌}
-use borrow.Author.Rules.{rules}
-use lib.Dec.{eqb}
+use mathlib.Core.Path.{◌≡◌}
+use Prim.Native.Nat.{◌-◌, ◌≤◌}
 use lib.ListN.{length, drop}
-use Rattle.flush_word.proofs.Trimming.{first_pre, starts_pre_lem, pre_end, pre_here, pre_on}
+use Rattle.flush_word.proofs.Trimming.{first_pre}
 use Rattle.flush_word.proofs.word.starts_pre.Given as goal
 
 abbrev pub invariant-loop-i : goal.invariant-loop-i

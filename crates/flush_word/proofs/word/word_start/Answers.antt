@@ -13,9 +13,12 @@ returns-then-blanks-eq0 c =
 
 pub returns-then-mode_of-eq2 : goal.returns-then-mode_of-eq2
 returns-then-mode_of-eq2 c =
-    let t = sym c.mode_of.ensures ∙ c.if-mode_of-eq2.true in record { upper_bound = search rules; starts_at = λ s b p v e.
+    let t = sym c.mode_of.ensures ∙ c.if-mode_of-eq2.true in record {
+      upper_bound = search rules;
+      starts_at = λ s b p v e.
           c.white_front.ensures.trims_front b.word v e
-          ∙ ap enc (sym (drop_trims c.args.blanks s b b.spacetag p (omega (arith, c.if-blanks-eq0.false)) t)) }
+          ∙ ap enc (sym (drop_trims c.args.blanks s b b.spacetag p (omega (arith, c.if-blanks-eq0.false)) t));
+    }
 
 pub returns : goal.returns
 returns c =

@@ -2,7 +2,6 @@
 -- Assumes nothing.
 use mathlib.Core.Path.{sym}
 use native.Mathlib.Omega.{arith}
-use borrow.Author.Rules.{rules}
 use lib.Seq.{length-take-le}
 use Rattle.flush_word.proofs.Wrapping.{part_len, front_inside, fronts_even, wrap_narrow, wrap_done}
 use Rattle.flush_word.proofs.Flushing.{emptied_is, small_opened}
@@ -68,11 +67,17 @@ returns-in-Done c =
     let e = emptied_is c.emptied.ensures in
     let g = rw c.in-Done.is at c.hard_wrap-done.ensures.grows in
     let m = part_len c.word_start-start.result c.args.st.word.n c.args.wb.now (omega (arith, c.requires.counts_within_units)) in
-    let some_word = c.requires.counts_within_units.0.text c.requires.text_value in record { stays_within_units = small_opened e c.requires.counts_within_units.0.used (omega (arith, c.requires.counts_within_units.0, m, g, c.next_line-line.ensures.opened)) g.cols (omega (arith, c.requires.counts_within_units.0, m, g, c.next_line-line.ensures.opened, some_word)) g.lines; wraps_word = λ d₀ base b o h.
+    let some_word = c.requires.counts_within_units.0.text c.requires.text_value in record {
+      stays_within_units = small_opened e c.requires.counts_within_units.0.used (omega (arith, c.requires.counts_within_units.0, m, g, c.next_line-line.ensures.opened)) g.cols (omega (arith, c.requires.counts_within_units.0, m, g, c.next_line-line.ensures.opened, some_word)) g.lines;
+      wraps_word = λ d₀ base b o h.
           wrap_done c.args.frame c.args.st c.word_start-start.result _ _ _ c.args.wb.now c.args.wt.now _ _ _ _ _ _ _ _ c.word_start-start.ensures.starts_at c.next_line-line.ensures.opens_line c.hard_wrap-done.ensures.wraps d₀ base b o
-          _ _ _ _ c.in-Done.is e c.starts_pre-pre.ensures (omega (arith, c.requires.counts_within_units)) (omega (arith, c.requires.counts_within_units)) }
+          _ _ _ _ c.in-Done.is e c.starts_pre-pre.ensures (omega (arith, c.requires.counts_within_units)) (omega (arith, c.requires.counts_within_units));
+    }
 
 pub returns-in-Narrow : goal.returns-in-Narrow
 returns-in-Narrow c =
-    record { stays_within_units = tt; wraps_word = λ d₀ base b o h.
-          wrap_narrow c.args.frame c.args.st c.word_start-start.result _ _ _ c.args.wb.now c.args.wt.now _ _ _ _ _ _ _ _ c.word_start-start.ensures.starts_at c.next_line-line.ensures.opens_line c.hard_wrap-done.ensures.wraps d₀ base b o c.in-Narrow.is }
+    record {
+      stays_within_units = tt;
+      wraps_word = λ d₀ base b o h.
+          wrap_narrow c.args.frame c.args.st c.word_start-start.result _ _ _ c.args.wb.now c.args.wt.now _ _ _ _ _ _ _ _ c.word_start-start.ensures.starts_at c.next_line-line.ensures.opens_line c.hard_wrap-done.ensures.wraps d₀ base b o c.in-Narrow.is;
+    }

@@ -4,7 +4,7 @@ use native.Mathlib.Omega.{arith}
 use borrow.Author.Rules.{rules}
 use Rattle.block.specs.Flat.{write_blanks}
 use Rattle.hard_wrap.specs.Hold.{setup}
-use Rattle.hard_wrap.proofs.Blanks.{holds_same, Blanking, blanks_turn, blanks_none}
+use Rattle.hard_wrap.proofs.Blanks.{holds_same, blanks_turn, blanks_none}
 use Rattle.hard_wrap.proofs.flush.write_blanks.Goals as goal
 
 pub loop-left-init : goal.loop-left-init
@@ -43,6 +43,9 @@ loop-left-preserved c =
 
 pub returns : goal.returns
 returns c =
-    record { blanked = record { n = omega (arith, c.loop-left.invariant); cols = c.loop-left.invariant.cols; place = omega (arith, c.loop-left.invariant); lines = c.loop-left.invariant.lines }; writes = λ d₀ base b t o ta ann.
+    record {
+      blanked = record { n = omega (arith, c.loop-left.invariant); cols = c.loop-left.invariant.cols; place = omega (arith, c.loop-left.invariant); lines = c.loop-left.invariant.lines };
+      writes = λ d₀ base b t o ta ann.
           let g = c.loop-left.invariant.going d₀ base b t o ta ann in
-          holds_same (sym (g.same ∙ blanks_none (setup c.args.frame) c.loop-left.left t g.next c.loop-left-test.false)) g.holds }
+          holds_same (sym (g.same ∙ blanks_none (setup c.args.frame) c.loop-left.left t g.next c.loop-left-test.false)) g.holds;
+    }

@@ -1,11 +1,5 @@
 -- `flush::write_blanks` meets its contract: the blanks that are left, from the block as it now stands, give what all of them give. Assumes nothing.
-use mathlib.Core.Option.{some}
-use mathlib.Core.Path.{refl, sym, ◌∙◌}
-use native.Mathlib.Omega.{arith}
-use borrow.Author.Rules.{rules}
-use Rattle.block.specs.Flat.{write_blanks}
-use Rattle.hard_wrap.specs.Hold.{setup}
-use Rattle.hard_wrap.proofs.Blanks.{holds_same, Blanking, blanks_turn, blanks_none}
+use Rattle.hard_wrap.proofs.Blanks.{Blanking}
 use Rattle.hard_wrap.proofs.flush.write_blanks.Given as goal
 
 abbrev pub invariant-loop-left : goal.invariant-loop-left

@@ -1,7 +1,6 @@
 -- `glyph::plain_within` meets its contract: a run in a text's front is one of the text, and has no more columns than bytes. Assumes nothing.
 use mathlib.Core.Path.{sym}
 use native.Mathlib.Omega.{arith}
-use borrow.Author.Rules.{rules}
 use lib.Seq.{length-take-le}
 use Rattle.characters.proofs.Runs.{run_whole}
 use Rattle.hard_wrap.proofs.glyph.plain_within.Goals as goal

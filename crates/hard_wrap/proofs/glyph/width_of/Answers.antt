@@ -1,9 +1,8 @@
 use mathlib.Core.List.{List}
 use mathlib.Core.Path.{◌≡◌}
-use Prim.Native.Nat.{ℕ, ◌+◌, ◌-◌, ◌*◌, ◌≤◌}
+use Prim.Native.Nat.{ℕ, ◌+◌}
 use native.Mathlib.Omega.{arith}
 use borrow.Author.Rules.{rules}
-use lib.ListN.{length}
 use Rattle.characters.specs.Utf8.{text_bytes}
 use Rattle.characters.proofs.RoundTrip.{Scalars}
 use Rattle.hard_wrap.specs.Walk.{Going}
@@ -25,8 +24,7 @@ pub loop-i-preserved : goal.loop-i-preserved
 loop-i-preserved c =
     let past : (cs : List ℕ) → Scalars cs → c.args.part.now ≡ text_bytes cs
     → Going c.args.part.now cs (c.loop-i.i + c.plain_run-run.result.len)
-    (c.loop-i.used + c.plain_run-run.result.cols) = λ cs v e. going_run c.args.part.now cs c.loop-i.i c.loop-i.used c.plain_run-run.result.len c.plain_run-run.result.cols v c.plain_run-run.ensures.plain_run (c.loop-i.invariant.2 cs v e) in
-    (
+    (c.loop-i.used + c.plain_run-run.result.cols) = λ cs v e. going_run c.args.part.now cs c.loop-i.i c.loop-i.used c.plain_run-run.result.len c.plain_run-run.result.cols v c.plain_run-run.ensures.plain_run (c.loop-i.invariant.2 cs v e) in (
       omega (arith, c.glyph-g.ensures, part_len c.args.part.now (c.loop-i.i + c.plain_run-run.result.len)),
       omega (arith, c.glyph-g.ensures, c.plain_run-run.ensures.len_in_bounds, c.loop-i.invariant),
       λ cs v e.

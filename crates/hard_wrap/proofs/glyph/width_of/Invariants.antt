@@ -1,14 +1,11 @@
 -- `glyph::width_of` meets its contract: at i, `used` is the columns of the characters before it. Assumes nothing.
 use mathlib.Core.List.{List}
 use mathlib.Core.Path.{◌≡◌}
-use Prim.Native.Nat.{ℕ, ◌+◌, ◌-◌, ◌*◌, ◌≤◌}
-use native.Mathlib.Omega.{arith}
-use borrow.Author.Rules.{rules}
+use Prim.Native.Nat.{ℕ, ◌-◌, ◌*◌, ◌≤◌}
 use lib.ListN.{length}
 use Rattle.characters.specs.Utf8.{text_bytes}
 use Rattle.characters.proofs.RoundTrip.{Scalars}
 use Rattle.hard_wrap.specs.Walk.{Going}
-use Rattle.hard_wrap.proofs.Walks.{part_len, going_start, going_run, going_on, going_end}
 use Rattle.hard_wrap.proofs.glyph.width_of.Given as goal
 
 abbrev pub invariant-loop-i : goal.invariant-loop-i

@@ -1,7 +1,6 @@
 -- `piece::close_with` meets its contract: text goes on the line, and that is closed. Assumes nothing.
 use mathlib.Core.List.{◌++◌}
 use native.Mathlib.Omega.{arith}
-use borrow.Author.Rules.{rules}
 use Rattle.block.specs.Flat.{with_line}
 use Rattle.lines.specs.Bridge.{text}
 use Rattle.hard_wrap.proofs.piece.close_with.Goals as goal

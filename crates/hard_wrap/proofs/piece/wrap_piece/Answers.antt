@@ -3,7 +3,7 @@ use mathlib.Core.Path.{◌≡◌, refl, ◌∙◌}
 use Prim.Native.Nat.{ℕ, ◌+◌, ◌-◌, ◌*◌, ◌^◌, ◌≤◌, ◌<◌, min}
 use native.Mathlib.Nat.{le_of_lt, le_of_eq, le_trans, lt_of_le_of_lt, add-lt-add_of_lt_of_le}
 use native.Mathlib.Omega.{arith}
-use borrow.Author.Tests.{ltb-true, ltb-false}
+use borrow.Author.Tests.{ltb-true}
 use borrow.Author.Rules.{rules, Fits-under}
 use lib.ListN.{length, take, drop}
 use Rattle.characters.specs.Columns.{str_width}
@@ -11,7 +11,7 @@ use Rattle.characters.specs.Utf8.{text_bytes}
 use Rattle.characters.proofs.RoundTrip.{Scalars}
 use Rattle.hard_wrap.specs.Hold.{setup, Room, Moved}
 use Rattle.hard_wrap.specs.Walk.{Going, Split}
-use Rattle.hard_wrap.proofs.Piecewise.{Walked, forward_on, piece_start, piece_turn, piece_stuck, piece_rest, piece_end}
+use Rattle.hard_wrap.proofs.Piecewise.{forward_on, piece_start, piece_turn, piece_stuck, piece_rest, piece_end}
 use Rattle.hard_wrap.proofs.Walks.{part_len, going_start, going_run, going_on, going_stop, going_end, split_same}
 use Rattle.fields.proofs.Texts.{rest as part-rest}
 use Rattle.hard_wrap.proofs.piece.wrap_piece.Goals as goal
@@ -95,8 +95,7 @@ walk-preserved c =
     let inside : (0 < c.glyph-g.result.len) × (c.glyph-g.result.cols < 256)
     × (c.walk.idx + c.plain_within-run.result.len + c.glyph-g.result.len ≤ length (rest)) = omega (arith, (fits).0, c.glyph-g.ensures.len_nonzero, part_len (rest) (c.walk.idx + c.plain_within-run.result.len)) in
     let past : (cs : List ℕ) → Scalars cs → rest ≡ text_bytes cs
-    → Going (rest) cs (c.walk.idx + c.plain_within-run.result.len) (c.walk.used + c.plain_within-run.result.cols) = λ cs v e. going_run (rest) cs c.walk.idx c.walk.used c.plain_within-run.result.len c.plain_within-run.result.cols v c.plain_within-run.ensures.plain_run (c.walk.invariant.2 cs v e) in
-    (
+    → Going (rest) cs (c.walk.idx + c.plain_within-run.result.len) (c.walk.used + c.plain_within-run.result.cols) = λ cs v e. going_run (rest) cs c.walk.idx c.walk.used c.plain_within-run.result.len c.plain_within-run.result.cols v c.plain_within-run.ensures.plain_run (c.walk.invariant.2 cs v e) in (
       (inside).2,
       omega (arith, (fits).1, c.if-left-used.false),
       λ cs v e.
@@ -161,7 +160,7 @@ loop-bpos-preserved c =
     let used = c.walk.used + c.plain_within-run.result.cols in
     let p = past cs v e in
     elim c.if-idx-rest.branch [
-      then-idx-rest y ↦ split_same y.split-is (going_end part cs i used l y.if-idx-rest.true p).0
+      | then-idx-rest y ↦ split_same y.split-is (going_end part cs i used l y.if-idx-rest.true p).0
       | else-idx-rest+then-left-used y ↦ split_same y.split-is (going_stop part cs i used y.glyph-g.result.len y.glyph-g.result.cols v y.if-idx-rest.false y.glyph-g.ensures.shows l y.if-left-used.true p)
     ] in
     let fw = moved in
@@ -211,33 +210,42 @@ returns-in-Stuck c =
     let used = c.walk.used + c.plain_within-run.result.cols in
     let p = past cs v e in
     elim c.if-idx-rest.branch [
-      then-idx-rest y ↦ split_same y.split-is (going_end part cs i used l y.if-idx-rest.true p).0
+      | then-idx-rest y ↦ split_same y.split-is (going_end part cs i used l y.if-idx-rest.true p).0
       | else-idx-rest+then-left-used y ↦ split_same y.split-is (going_stop part cs i used y.glyph-g.result.len y.glyph-g.result.cols v y.if-idx-rest.false y.glyph-g.ensures.shows l y.if-left-used.true p)
     ] in
-    record { grows = tt; pieces = λ d₀ base b t cs o ta ann sc e.
+    record {
+      grows = tt;
+      pieces = λ d₀ base b t cs o ta ann sc e.
           let g = c.loop-bpos.invariant.going d₀ base b t cs o ta ann sc e in
           let f = part-rest c.args.piece.now c.loop-bpos.bpos ∙ g.rest in
           let x = c.wrap_line-step.ensures.wraps_line d₀ base g.next t g.q g.holds ta ann g.scalars f
           (wide cs sc e (str_width g.q) g.cols) (stopped g.q g.scalars f) in
-          λ v cut. piece_stuck (setup c.args.frame) d₀ base b t cs c.args.piece.now c.loop-bpos.cur c.loop-bpos.wpos c.loop-bpos.bpos _ _ _ g c.in-Stuck.is _ _ _ x v }
+          λ v cut. piece_stuck (setup c.args.frame) d₀ base b t cs c.args.piece.now c.loop-bpos.cur c.loop-bpos.wpos c.loop-bpos.bpos _ _ _ g c.in-Stuck.is _ _ _ x v;
+    }
 
 pub returns-then-bpos-piece : goal.returns-then-bpos-piece
 returns-then-bpos-piece c =
     let fit : c.width_of-w.result ≤ c.loop-bpos.wpos + (c.args.frame.width - c.loop-bpos.cur.cols) =
     elim c.loop-bpos-test.branch [ then-loop-bpos-test+else-wpos-frame y ↦ omega (arith, y.if-wpos-frame.false) | else-loop-bpos-test y ↦ absurd (omega (arith, y.loop-bpos-test.false, c.if-bpos-piece.true)) ] in
     let pl = part_len c.args.piece.now c.loop-bpos.bpos in
-    record { grows = record {
+    record {
+      grows = record {
         n = omega (arith, c.put_text.ensures.longer, pl, c.loop-bpos.invariant);
         cols = omega (arith, c.put_text.ensures.longer, c.less-used.ensures, fit, c.loop-bpos.invariant);
         place = omega (arith, c.put_text.ensures.longer, c.less-used.ensures, fit, c.loop-bpos.invariant, c.if-bpos-piece.true);
         lines = omega (arith, c.put_text.ensures.longer, c.loop-bpos.invariant);
-      }; pieces = λ d₀ base b t cs o ta ann sc e.
+      };
+      pieces = λ d₀ base b t cs o ta ann sc e.
           let g = c.loop-bpos.invariant.going d₀ base b t cs o ta ann sc e in
           piece_rest (setup c.args.frame) d₀ base b t cs c.args.piece.now c.loop-bpos.cur c.loop-bpos.wpos c.loop-bpos.bpos c.loop-bpos.lb c.loop-bpos.lt c.loop-bpos.out g c.args.frame refl _ _ _ c.less-used.result c.width_of-w.result
           (c.width_of-w.ensures.widths cs sc e) c.less-used.ensures fit c.loop-bpos.invariant.cols
-          (λ u. c.put_text.ensures.puts_text d₀ base g.next t g.q c.loop-bpos.out g.holds ta ann g.scalars (part-rest c.args.piece.now c.loop-bpos.bpos ∙ g.rest) u) }
+          (λ u. c.put_text.ensures.puts_text d₀ base g.next t g.q c.loop-bpos.out g.holds ta ann g.scalars (part-rest c.args.piece.now c.loop-bpos.bpos ∙ g.rest) u);
+    }
 
 pub returns : goal.returns
 returns c =
-    record { grows = record { n = omega (arith, c.loop-bpos.invariant); cols = c.loop-bpos.invariant.cols; place = omega (arith, c.loop-bpos.invariant, c.if-bpos-piece.false); lines = c.loop-bpos.invariant.lines }; pieces = λ d₀ base b t cs o ta ann sc e.
-          piece_end (setup c.args.frame) d₀ base b t cs c.args.piece.now c.loop-bpos.cur c.loop-bpos.wpos c.loop-bpos.bpos c.loop-bpos.lb c.loop-bpos.lt c.loop-bpos.out (c.loop-bpos.invariant.going d₀ base b t cs o ta ann sc e) c.if-bpos-piece.false }
+    record {
+      grows = record { n = omega (arith, c.loop-bpos.invariant); cols = c.loop-bpos.invariant.cols; place = omega (arith, c.loop-bpos.invariant, c.if-bpos-piece.false); lines = c.loop-bpos.invariant.lines };
+      pieces = λ d₀ base b t cs o ta ann sc e.
+          piece_end (setup c.args.frame) d₀ base b t cs c.args.piece.now c.loop-bpos.cur c.loop-bpos.wpos c.loop-bpos.bpos c.loop-bpos.lb c.loop-bpos.lt c.loop-bpos.out (c.loop-bpos.invariant.going d₀ base b t cs o ta ann sc e) c.if-bpos-piece.false;
+    }

@@ -1,23 +1,14 @@
 -- `piece::wrap_piece` meets its contract: what is left of the piece, from the block as it now stands, gives what the whole piece gives; the walk in each turn passes
 -- characters that fit and stops at the first that does not. The outer measure is twice the bytes left and one for a line with columns: a turn goes forward or
 -- empties such a line; the walk's is the bytes that it has not passed. Assumes nothing.
-use mathlib.Core.Logic.{⊎_elim}
 use mathlib.Core.List.{List}
-use mathlib.Core.Path.{◌≡◌, refl, ◌∙◌}
-use Prim.Native.Nat.{ℕ, ◌+◌, ◌-◌, ◌*◌, ◌^◌, ◌≤◌, ◌<◌, min}
-use native.Mathlib.Nat.{le_of_lt, le_of_eq, le_trans, lt_of_le_of_lt, add-lt-add_of_lt_of_le}
-use native.Mathlib.Omega.{arith}
-use borrow.Author.Tests.{ltb-true, ltb-false}
-use borrow.Author.Rules.{rules, Fits-under}
-use lib.ListN.{length, take, drop}
-use Rattle.characters.specs.Columns.{str_width}
+use mathlib.Core.Path.{◌≡◌}
+use Prim.Native.Nat.{ℕ, ◌+◌, ◌-◌, ◌*◌, ◌≤◌, min}
+use lib.ListN.{length}
 use Rattle.characters.specs.Utf8.{text_bytes}
 use Rattle.characters.proofs.RoundTrip.{Scalars}
-use Rattle.hard_wrap.specs.Hold.{setup, Room, Moved}
-use Rattle.hard_wrap.specs.Walk.{Going, Split}
-use Rattle.hard_wrap.proofs.Piecewise.{Walked, forward_on, piece_start, piece_turn, piece_stuck, piece_rest, piece_end}
-use Rattle.hard_wrap.proofs.Walks.{part_len, going_start, going_run, going_on, going_stop, going_end, split_same}
-use Rattle.fields.proofs.Texts.{rest as part-rest}
+use Rattle.hard_wrap.specs.Walk.{Going}
+use Rattle.hard_wrap.proofs.Piecewise.{Walked}
 use Rattle.hard_wrap.proofs.piece.wrap_piece.Given as goal
 
 abbrev pub invariant-walk : goal.invariant-walk

@@ -4,7 +4,7 @@ use Prim.Native.Nat.{ℕ, ◌-◌, ◌≤◌}
 use native.Mathlib.Omega.{arith}
 use borrow.Author.Rules.{rules}
 use lib.ListN.{length, take, drop, length-take, length-drop}
-use Rattle.hard_wrap.proofs.Words.{Passed, word_start, word_end, word_name, word_piece, word_narrow}
+use Rattle.hard_wrap.proofs.Words.{word_start, word_end, word_name, word_piece, word_narrow}
 use Rattle.hard_wrap.proofs.wrap.hard_wrap.Goals as goal
 
 piece_len : (s : List ℕ) (at end : ℕ) → end ≤ length s → length (take (end - at) (drop at s)) ≡ end - at
@@ -31,9 +31,12 @@ wrap_piece-done-requires c =
 
 pub returns-in-Narrow : goal.returns-in-Narrow
 returns-in-Narrow c =
-    record { grows = tt; wraps = λ d₀ base b w o v e.
+    record {
+      grows = tt;
+      wraps = λ d₀ base b w o v e.
           word_narrow c.args.frame d₀ base b w c.args.wb.now c.args.wt.now c.loop-at.cur c.loop-at.at c.loop-at.lb c.loop-at.lt c.loop-at.out (c.loop-at.invariant.left d₀ base b w o v e) c.requires.cols_le_width.1 c.loop-at-test.true
-          c.run_end-end.result c.run_end-end.ensures.value c.if-tag-lt-MARK.true c.wrap_piece-done.result _ _ _ c.wrap_piece-done.ensures.pieces c.in-Narrow.is }
+          c.run_end-end.result c.run_end-end.ensures.value c.if-tag-lt-MARK.true c.wrap_piece-done.result _ _ _ c.wrap_piece-done.ensures.pieces c.in-Narrow.is;
+    }
 
 pub loop-at-preserved-in-Done : goal.loop-at-preserved-in-Done
 loop-at-preserved-in-Done c =
@@ -75,5 +78,8 @@ loop-at-preserved c =
 
 pub returns : goal.returns
 returns c =
-    record { grows = record { n = omega (arith, c.loop-at.invariant); cols = c.loop-at.invariant.cols; place = omega (arith, c.loop-at.invariant); lines = c.loop-at.invariant.lines }; wraps = λ d₀ base b w o v e.
-          word_end c.args.frame d₀ base b w c.args.wb.now c.args.wt.now c.loop-at.cur c.loop-at.at c.loop-at.lb c.loop-at.lt c.loop-at.out (c.loop-at.invariant.left d₀ base b w o v e) c.loop-at-test.false }
+    record {
+      grows = record { n = omega (arith, c.loop-at.invariant); cols = c.loop-at.invariant.cols; place = omega (arith, c.loop-at.invariant); lines = c.loop-at.invariant.lines };
+      wraps = λ d₀ base b w o v e.
+          word_end c.args.frame d₀ base b w c.args.wb.now c.args.wt.now c.loop-at.cur c.loop-at.at c.loop-at.lb c.loop-at.lt c.loop-at.out (c.loop-at.invariant.left d₀ base b w o v e) c.loop-at-test.false;
+    }

@@ -1,11 +1,7 @@
 -- `wrap::hard_wrap` meets its contract: what is left of the word, from the block as it now stands, gives what the whole word gives. Assumes nothing.
-use mathlib.Core.List.{List}
-use mathlib.Core.Path.{◌≡◌, refl}
-use Prim.Native.Nat.{ℕ, ◌-◌, ◌≤◌}
-use native.Mathlib.Omega.{arith}
-use borrow.Author.Rules.{rules}
-use lib.ListN.{length, take, drop, length-take, length-drop}
-use Rattle.hard_wrap.proofs.Words.{Passed, word_start, word_end, word_name, word_piece, word_narrow}
+use Prim.Native.Nat.{◌-◌}
+use lib.ListN.{length}
+use Rattle.hard_wrap.proofs.Words.{Passed}
 use Rattle.hard_wrap.proofs.wrap.hard_wrap.Given as goal
 
 abbrev pub invariant-loop-at : goal.invariant-loop-at

@@ -3,7 +3,6 @@
 use Rattle.holes.proofs.ColsLaws.{text_cols, empty_cols, name_cols}
 use Rattle.tagged_line.proofs.Laying.{tail_size}
 use native.Mathlib.Omega.{arith}
-use borrow.Author.Rules.{rules}
 use Rattle.holes.proofs.cols.piece_cols.Goals as goal
 
 pub returns-then-content-ge1 : goal.returns-then-content-ge1

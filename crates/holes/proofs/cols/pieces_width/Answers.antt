@@ -1,11 +1,8 @@
-use Rattle.holes.proofs.WidthLaws.{Passed, pass_start, pass_on, pass_broken, pass_end}
+use Rattle.holes.proofs.WidthLaws.{pass_start, pass_on, pass_broken, pass_end}
 use Rattle.tagged_line.proofs.Laying.{content_size}
 use Rattle.fields.proofs.Fields.{FieldIs, field_is, field_broken, field_end}
 use native.Mathlib.Omega.{arith}
-use lib.ListN.{length}
-use Prim.Native.Nat.{◌-◌}
 use mathlib.Core.Path.{sym, ◌∙◌}
-use borrow.Author.Rules.{rules}
 use Rattle.holes.proofs.cols.pieces_width.Goals as goal
 
 pub loop-letter-init : goal.loop-letter-init

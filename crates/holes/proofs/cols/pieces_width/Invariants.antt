@@ -1,13 +1,8 @@
 -- `cols::pieces_width` meets its contract: the columns so far and those of the pieces left are the columns of all.
 -- Assumes nothing.
-use Rattle.holes.proofs.WidthLaws.{Passed, pass_start, pass_on, pass_broken, pass_end}
-use Rattle.tagged_line.proofs.Laying.{content_size}
-use Rattle.fields.proofs.Fields.{FieldIs, field_is, field_broken, field_end}
-use native.Mathlib.Omega.{arith}
+use Rattle.holes.proofs.WidthLaws.{Passed}
 use lib.ListN.{length}
 use Prim.Native.Nat.{◌-◌}
-use mathlib.Core.Path.{sym, ◌∙◌}
-use borrow.Author.Rules.{rules}
 use Rattle.holes.proofs.cols.pieces_width.Given as goal
 
 abbrev pub invariant-loop-letter : goal.invariant-loop-letter

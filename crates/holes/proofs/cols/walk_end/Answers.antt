@@ -1,9 +1,6 @@
-use Rattle.holes.proofs.WidthLaws.{Walked, walk_start, walk_on, walk_small, walk_broken, walk_done, walk_few, last_few}
+use Rattle.holes.proofs.WidthLaws.{walk_start, walk_on, walk_small, walk_broken, walk_done, walk_few, last_few}
 use Rattle.places.proofs.HoleLaws.{FoundHole, found_hole, told_hole}
 use native.Mathlib.Omega.{arith}
-use lib.ListN.{length}
-use Prim.Native.Nat.{◌-◌}
-use borrow.Author.Rules.{rules}
 use Rattle.holes.proofs.cols.walk_end.Goals as goal
 
 pub loop-place-init : goal.loop-place-init

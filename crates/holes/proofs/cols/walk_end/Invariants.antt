@@ -1,11 +1,8 @@
 -- `cols::walk_end` meets its contract: from here the walk ends where the whole one does.
 -- Assumes nothing.
-use Rattle.holes.proofs.WidthLaws.{Walked, walk_start, walk_on, walk_small, walk_broken, walk_done, walk_few, last_few}
-use Rattle.places.proofs.HoleLaws.{FoundHole, found_hole, told_hole}
-use native.Mathlib.Omega.{arith}
+use Rattle.holes.proofs.WidthLaws.{Walked}
 use lib.ListN.{length}
 use Prim.Native.Nat.{◌-◌}
-use borrow.Author.Rules.{rules}
 use Rattle.holes.proofs.cols.walk_end.Given as goal
 
 abbrev pub invariant-loop-place : goal.invariant-loop-place

@@ -3,7 +3,6 @@
 use mathlib.Core.Path.{sym}
 use lib.ListN.{get_or-eq_default}
 use native.Mathlib.Omega.{arith}
-use borrow.Author.Rules.{rules}
 use Rattle.holes.proofs.draw.annotation_of.Goals as goal
 
 pub returns-then-content-eq0 : goal.returns-then-content-eq0

@@ -1,7 +1,6 @@
 -- `draw::push_holed` meets its contract: where no holes overlap the walk gives the text of `to_string`.
 -- Assumes nothing.
 use Rattle.holes.proofs.DrawLaws.{pushed_holed}
-use borrow.Author.Rules.{rules}
 use Rattle.holes.proofs.draw.push_holed.Goals as goal
 
 pub returns : goal.returns

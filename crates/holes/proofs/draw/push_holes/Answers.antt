@@ -1,10 +1,8 @@
 use Rattle.holes.proofs.DrawLaws.{passed, begin_small, end_small}
 use Rattle.fields.proofs.Parts.{part_length}
-use Rattle.holes.proofs.DrawLaws.{Drawing, draw_start, draw_room, draw_piece_room, draw_on, draw_broken, draw_little, draw_last_room, draw_last_grown, draw_end, end_most}
+use Rattle.holes.proofs.DrawLaws.{draw_start, draw_room, draw_piece_room, draw_on, draw_broken, draw_little, draw_last_room, draw_last_grown, draw_end, end_most}
 use Rattle.places.proofs.HoleLaws.{FoundHole, found_hole, told_hole}
 use native.Mathlib.Omega.{arith}
-use lib.ListN.{length}
-use Prim.Native.Nat.{◌-◌}
 use borrow.Author.Rules.{rules}
 use Rattle.holes.proofs.draw.push_holes.Goals as goal
 
@@ -98,8 +96,7 @@ slice_bounds-push_segments-end-in-End c =
 
 pub push_segments-requires : goal.push_segments-requires
 push_segments-requires c =
-    let n = part_length c.args.segs c.args.holes c.args.content.now c.requires.segs_le_holes.1 in
-    (
+    let n = part_length c.args.segs c.args.holes c.args.content.now c.requires.segs_le_holes.1 in (
       omega (arith, n, c.requires.segs_le_holes.1, c.requires.segs_le_holes.2),
       end_small _ _ _ (end_most c.args.out.now c.args.line c.args.annotation c.args.content.now _ _ _ c.args.texts _ c.requires.segs_le_holes.0 c.requires.segs_le_holes.1 c.larger-end.ensures) c.requires.segs_le_holes.2 c.requires.segs_le_holes.3,
       draw_last_room _ _ _ _ _ _ _ _ _ c.requires.segs_le_holes.0 c.requires.segs_le_holes.1 c.larger-end.ensures _ _ _ _ c.loop-place.invariant c.requires.within,

@@ -1,13 +1,8 @@
 -- `draw::push_holes` meets its contract: what is drawn so far and the holes left give the whole.
 -- Assumes nothing.
-use Rattle.holes.proofs.DrawLaws.{passed, begin_small, end_small}
-use Rattle.fields.proofs.Parts.{part_length}
-use Rattle.holes.proofs.DrawLaws.{Drawing, draw_start, draw_room, draw_piece_room, draw_on, draw_broken, draw_little, draw_last_room, draw_last_grown, draw_end, end_most}
-use Rattle.places.proofs.HoleLaws.{FoundHole, found_hole, told_hole}
-use native.Mathlib.Omega.{arith}
+use Rattle.holes.proofs.DrawLaws.{Drawing}
 use lib.ListN.{length}
 use Prim.Native.Nat.{◌-◌}
-use borrow.Author.Rules.{rules}
 use Rattle.holes.proofs.draw.push_holes.Given as goal
 
 abbrev pub invariant-loop-place : goal.invariant-loop-place

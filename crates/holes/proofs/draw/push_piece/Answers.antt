@@ -5,7 +5,6 @@ use Rattle.holes.proofs.Segments.{piece_text, piece_stands}
 use Rattle.tagged_line.proofs.Laying.{grown_more}
 use Rattle.fields.proofs.Parts.{part_length}
 use native.Mathlib.Omega.{arith}
-use borrow.Author.Rules.{rules}
 use Rattle.holes.proofs.draw.push_piece.Goals as goal
 
 pub returns-then-texts : goal.returns-then-texts

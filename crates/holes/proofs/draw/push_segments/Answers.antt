@@ -4,7 +4,6 @@ use Rattle.holes.proofs.Segments.{low, few, drawn_none, drawn_part}
 use Rattle.tagged_line.proofs.Laying.{grown_none, grown_more}
 use Rattle.fields.proofs.Parts.{part_length}
 use native.Mathlib.Omega.{arith}
-use borrow.Author.Rules.{rules}
 use Rattle.holes.proofs.draw.push_segments.Goals as goal
 
 pub returns-then-to-from : goal.returns-then-to-from

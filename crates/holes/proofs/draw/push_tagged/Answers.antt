@@ -1,7 +1,6 @@
 -- `draw::push_tagged` meets its contract.
 -- Assumes nothing.
 use Rattle.holes.proofs.DrawLaws.{pushed_tagged}
-use borrow.Author.Rules.{rules}
 use Rattle.holes.proofs.draw.push_tagged.Goals as goal
 
 pub returns : goal.returns

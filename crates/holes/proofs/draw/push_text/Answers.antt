@@ -3,7 +3,6 @@
 use Rattle.holes.proofs.Segments.{text_pushed, text_empty, name_pushed}
 use Rattle.tagged_line.proofs.Laying.{grown_none, grown_more, tail_size}
 use native.Mathlib.Omega.{arith}
-use borrow.Author.Rules.{rules}
 use Rattle.holes.proofs.draw.push_text.Goals as goal
 
 pub returns-then-content-ge1 : goal.returns-then-content-ge1

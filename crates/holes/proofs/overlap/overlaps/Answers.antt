@@ -1,9 +1,6 @@
-use Rattle.holes.proofs.OverlapLaws.{Looks, look_start, look_on, look_before, look_past, look_broken, look_end}
+use Rattle.holes.proofs.OverlapLaws.{look_start, look_on, look_before, look_past, look_broken, look_end}
 use Rattle.places.proofs.HoleLaws.{FoundHole, found_hole, told_hole}
 use native.Mathlib.Omega.{arith}
-use lib.ListN.{length}
-use Prim.Native.Nat.{◌-◌}
-use borrow.Author.Rules.{rules}
 use Rattle.holes.proofs.overlap.overlaps.Goals as goal
 
 pub loop-place-init : goal.loop-place-init

@@ -1,11 +1,8 @@
 -- `overlap::overlaps` meets its contract: what the holes left give is what all give.
 -- Assumes nothing.
-use Rattle.holes.proofs.OverlapLaws.{Looks, look_start, look_on, look_before, look_past, look_broken, look_end}
-use Rattle.places.proofs.HoleLaws.{FoundHole, found_hole, told_hole}
-use native.Mathlib.Omega.{arith}
+use Rattle.holes.proofs.OverlapLaws.{Looks}
 use lib.ListN.{length}
 use Prim.Native.Nat.{◌-◌}
-use borrow.Author.Rules.{rules}
 use Rattle.holes.proofs.overlap.overlaps.Given as goal
 
 abbrev pub invariant-loop-place : goal.invariant-loop-place

@@ -1,12 +1,9 @@
 -- `buffer::append` meets its contract: after i turns the first i items of the other pair stand behind. Assumes nothing.
-use mathlib.Core.List.{◌++◌, append-nil}
-use mathlib.Core.Path.{◌≡◌, refl, sym}
+use mathlib.Core.List.{◌++◌}
+use mathlib.Core.Path.{◌≡◌}
 use Prim.Native.Nat.{◌+◌, ◌-◌, ◌≤◌}
-use native.Mathlib.Omega.{arith}
-use borrow.Author.Rules.{rules}
 use lib.ListN.{length}
 use Rattle.lines.specs.Items.{items}
-use Rattle.lines.proofs.Buffers.{append_turn, append_done, items_none}
 use Rattle.lines.proofs.buffer.append.Given as goal
 
 abbrev pub invariant-loop-i : goal.invariant-loop-i

@@ -1,8 +1,6 @@
-use mathlib.Core.List.{◌++◌, append-nil}
-use mathlib.Core.Path.{◌≡◌, refl, sym}
-use Prim.Native.Nat.{◌+◌, ◌-◌, ◌≤◌}
+use mathlib.Core.List.{append-nil}
+use mathlib.Core.Path.{refl, sym}
 use borrow.Author.Rules.{rules}
-use lib.ListN.{length, replicate}
 use Rattle.lines.specs.Items.{items, item}
 use Rattle.lines.proofs.Buffers.{blanks_turn, blanks_done}
 use Rattle.lines.proofs.buffer.push_blanks.Goals as goal

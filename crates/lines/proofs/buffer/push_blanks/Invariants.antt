@@ -1,11 +1,9 @@
 -- `buffer::push_blanks` meets its contract: after i turns i spaces stand behind. Assumes nothing.
-use mathlib.Core.List.{◌++◌, append-nil}
-use mathlib.Core.Path.{◌≡◌, refl, sym}
+use mathlib.Core.List.{◌++◌}
+use mathlib.Core.Path.{◌≡◌}
 use Prim.Native.Nat.{◌+◌, ◌-◌, ◌≤◌}
-use borrow.Author.Rules.{rules}
 use lib.ListN.{length, replicate}
 use Rattle.lines.specs.Items.{items, item}
-use Rattle.lines.proofs.Buffers.{blanks_turn, blanks_done}
 use Rattle.lines.proofs.buffer.push_blanks.Given as goal
 
 abbrev pub invariant-loop-i : goal.invariant-loop-i

@@ -1,9 +1,5 @@
-use mathlib.Core.List.{◌++◌}
-use mathlib.Core.Path.{◌≡◌, refl}
-use Prim.Native.Nat.{◌+◌, ◌-◌, ◌≤◌}
+use mathlib.Core.Path.{refl}
 use borrow.Author.Rules.{rules}
-use lib.ListN.{length, take}
-use Rattle.lines.specs.Bridge.{tagged}
 use Rattle.lines.specs.Items.{items}
 use Rattle.lines.proofs.Buffers.{text_turn, text_done, text_start}
 use Rattle.lines.proofs.buffer.push_text.Goals as goal

@@ -1,12 +1,10 @@
 -- `buffer::push_text` meets its contract: after i turns the first i bytes stand behind, each with the tag. Assumes nothing.
 use mathlib.Core.List.{◌++◌}
-use mathlib.Core.Path.{◌≡◌, refl}
+use mathlib.Core.Path.{◌≡◌}
 use Prim.Native.Nat.{◌+◌, ◌-◌, ◌≤◌}
-use borrow.Author.Rules.{rules}
 use lib.ListN.{length, take}
 use Rattle.lines.specs.Bridge.{tagged}
 use Rattle.lines.specs.Items.{items}
-use Rattle.lines.proofs.Buffers.{text_turn, text_done, text_start}
 use Rattle.lines.proofs.buffer.push_text.Given as goal
 
 abbrev pub invariant-loop-i : goal.invariant-loop-i

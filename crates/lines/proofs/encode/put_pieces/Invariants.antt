@@ -1,9 +1,8 @@
 -- `encode::put_pieces` meets its contract: what is left of the line from i, written at k, makes the whole line. Assumes nothing.
-use mathlib.Core.Path.{◌≡◌, refl}
+use mathlib.Core.Path.{◌≡◌}
 use Prim.Native.Nat.{◌+◌, ◌-◌, ◌*◌, ◌≤◌}
-use borrow.Author.Rules.{rules}
 use lib.ListN.{length}
-use Rattle.lines.proofs.Pieces.{Makes, pieces_turn, pieces_done}
+use Rattle.lines.proofs.Pieces.{Makes}
 use Rattle.lines.proofs.encode.put_pieces.Given as goal
 
 abbrev pub invariant-loop-i : goal.invariant-loop-i

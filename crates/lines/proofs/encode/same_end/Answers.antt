@@ -1,9 +1,6 @@
-use mathlib.Core.Path.{◌≡◌, refl}
-use Prim.Native.Nat.{◌+◌, ◌-◌, ◌≤◌}
+use mathlib.Core.Path.{refl}
 use native.Mathlib.Omega.{arith}
 use borrow.Author.Rules.{rules}
-use lib.ListN.{length, drop}
-use Rattle.lines.specs.Encode.{same_t}
 use Rattle.lines.proofs.Pieces.{same_on, same_off, same_out}
 use Rattle.lines.proofs.encode.same_end.Goals as goal
 

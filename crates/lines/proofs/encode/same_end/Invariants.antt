@@ -1,11 +1,8 @@
 -- `encode::same_end` meets its contract: at j, the entries of the tag from there on end where those from i on end. Assumes nothing.
-use mathlib.Core.Path.{◌≡◌, refl}
+use mathlib.Core.Path.{◌≡◌}
 use Prim.Native.Nat.{◌+◌, ◌-◌, ◌≤◌}
-use native.Mathlib.Omega.{arith}
-use borrow.Author.Rules.{rules}
 use lib.ListN.{length, drop}
 use Rattle.lines.specs.Encode.{same_t}
-use Rattle.lines.proofs.Pieces.{same_on, same_off, same_out}
 use Rattle.lines.proofs.encode.same_end.Given as goal
 
 abbrev pub invariant-loop-j : goal.invariant-loop-j

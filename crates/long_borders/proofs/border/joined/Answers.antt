@@ -1,5 +1,4 @@
 -- `border::joined` meets its contract: the two joins of a segment, by the side. Assumes nothing.
-use borrow.Author.Rules.{rules}
 use Rattle.long_borders.proofs.border.joined.Goals as goal
 
 pub returns-in-Above : goal.returns-in-Above

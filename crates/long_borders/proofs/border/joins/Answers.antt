@@ -1,5 +1,4 @@
 -- `border::joins` meets its contract: the two tests of a segment, by the side. Assumes nothing.
-use borrow.Author.Rules.{rules}
 use Rattle.long_borders.proofs.border.joins.Goals as goal
 
 pub returns-in-Above : goal.returns-in-Above

@@ -1,9 +1,6 @@
-use mathlib.Core.Path.{◌≡◌, sym, ◌∙◌}
-use mathlib.Core.Logic.{⊎_elim}
-use Prim.Native.Nat.{◌+◌, ◌-◌, ◌≤◌, max}
+use mathlib.Core.Path.{sym, ◌∙◌}
 use native.Mathlib.Omega.{arith}
-use lib.ListN.{length}
-use Rattle.long_borders.proofs.Laws.{SoFar, merge_starts, merge_joins, merge_passes, merge_ends}
+use Rattle.long_borders.proofs.Laws.{merge_starts, merge_joins, merge_passes, merge_ends}
 use borrow.Author.Rules.{rules}
 use Rattle.long_borders.proofs.border.merge_from.Goals as goal
 use Rattle.long_borders.proofs.border.merge_from.Goals.{then-joins, else-joins}
@@ -15,7 +12,7 @@ loop-i-init c =
 pub loop-i-preserved : goal.loop-i-preserved
 loop-i-preserved c =
     elim c.if-joins.branch [
-      then-joins y ↦ (
+      | then-joins y ↦ (
         search rules,
         search rules,
         omega (arith, y.join_on-k.ensures.value.0, y.k-is),

@@ -1,11 +1,8 @@
 -- `border::merge_from` meets its contract: merging what is left of the other border gives what merging the whole gives. Assumes nothing.
-use mathlib.Core.Path.{◌≡◌, sym, ◌∙◌}
-use mathlib.Core.Logic.{⊎_elim}
+use mathlib.Core.Path.{◌≡◌}
 use Prim.Native.Nat.{◌+◌, ◌-◌, ◌≤◌, max}
-use native.Mathlib.Omega.{arith}
 use lib.ListN.{length}
-use Rattle.long_borders.proofs.Laws.{SoFar, merge_starts, merge_joins, merge_passes, merge_ends}
-use borrow.Author.Rules.{rules}
+use Rattle.long_borders.proofs.Laws.{SoFar}
 use Rattle.long_borders.proofs.border.merge_from.Given as goal
 
 abbrev pub invariant-loop-i : goal.invariant-loop-i

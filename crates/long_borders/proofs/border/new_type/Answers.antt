@@ -1,6 +1,3 @@
-use mathlib.Core.Path.{◌≡◌}
-use Prim.Native.Nat.{◌-◌, ◌≤◌}
-use lib.ListN.{length, take, replicate}
 use Rattle.borders.proofs.Buffers.{filled}
 use Rattle.long_borders.proofs.Laws.{filled_up}
 use borrow.Author.Rules.{rules}

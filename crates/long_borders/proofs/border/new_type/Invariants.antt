@@ -2,9 +2,6 @@
 use mathlib.Core.Path.{◌≡◌}
 use Prim.Native.Nat.{◌-◌, ◌≤◌}
 use lib.ListN.{length, take, replicate}
-use Rattle.borders.proofs.Buffers.{filled}
-use Rattle.long_borders.proofs.Laws.{filled_up}
-use borrow.Author.Rules.{rules}
 use Rattle.long_borders.proofs.border.new_type.Given as goal
 
 abbrev pub invariant-loop-i : goal.invariant-loop-i

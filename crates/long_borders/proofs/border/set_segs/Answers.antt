@@ -1,6 +1,4 @@
-use mathlib.Core.Path.{◌≡◌}
-use Prim.Native.Nat.{◌-◌, ◌≤◌}
-use lib.ListN.{length, take}
+use lib.ListN.{length}
 use Rattle.long_borders.proofs.Laws.{copied, copied_more}
 use borrow.Author.Rules.{rules}
 use Rattle.long_borders.proofs.border.set_segs.Goals as goal

@@ -2,8 +2,6 @@
 use mathlib.Core.Path.{◌≡◌}
 use Prim.Native.Nat.{◌-◌, ◌≤◌}
 use lib.ListN.{length, take}
-use Rattle.long_borders.proofs.Laws.{copied, copied_more}
-use borrow.Author.Rules.{rules}
 use Rattle.long_borders.proofs.border.set_segs.Given as goal
 
 abbrev pub invariant-loop-i : goal.invariant-loop-i

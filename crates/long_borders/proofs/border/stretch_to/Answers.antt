@@ -1,8 +1,4 @@
-use mathlib.Core.Path.{◌≡◌}
-use mathlib.Core.List.{◌++◌}
-use Prim.Native.Nat.{◌-◌, ◌≤◌}
-use lib.ListN.{length, take, replicate}
-use Rattle.borders.specs.BorderSegHoriz.{Horiz}
+use lib.ListN.{take}
 use Rattle.borders.proofs.Buffers.{stretched, unstretched}
 use Rattle.long_borders.proofs.Laws.{keeps_stretched}
 use borrow.Author.Rules.{rules}

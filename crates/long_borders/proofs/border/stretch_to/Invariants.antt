@@ -4,9 +4,6 @@ use mathlib.Core.List.{◌++◌}
 use Prim.Native.Nat.{◌-◌, ◌≤◌}
 use lib.ListN.{length, take, replicate}
 use Rattle.borders.specs.BorderSegHoriz.{Horiz}
-use Rattle.borders.proofs.Buffers.{stretched, unstretched}
-use Rattle.long_borders.proofs.Laws.{keeps_stretched}
-use borrow.Author.Rules.{rules}
 use Rattle.long_borders.proofs.border.stretch_to.Given as goal
 
 abbrev pub invariant-loop-i : goal.invariant-loop-i

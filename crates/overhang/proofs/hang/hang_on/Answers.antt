@@ -1,9 +1,9 @@
 use mathlib.Core.Path.{subst}
 use native.Mathlib.Omega.{arith}
 use borrow.Author.Rules.{rules}
-use Rattle.slots.specs.Seats.{slots_measure, NextIn, FindsNext}
+use Rattle.slots.specs.Seats.{NextIn, FindsNext}
 use Rattle.extend_lines.proofs.Handing.{bytes_known}
-use Rattle.overhang.proofs.RowLaws.{Turns, turns_start, turns_on, turns_end, turns_far}
+use Rattle.overhang.proofs.RowLaws.{turns_start, turns_on, turns_end, turns_far}
 use Rattle.overhang.proofs.hang.hang_on.Goals as goal
 
 pub loop-next-init : goal.loop-next-init

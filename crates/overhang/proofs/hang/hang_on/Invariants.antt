@@ -1,11 +1,7 @@
 -- `overhang::hang::hang_on` meets its contract: what hangs on of the cells passed stands, and the others are ahead.
 -- Assumes nothing.
-use mathlib.Core.Path.{subst}
-use native.Mathlib.Omega.{arith}
-use borrow.Author.Rules.{rules}
-use Rattle.slots.specs.Seats.{slots_measure, NextIn, FindsNext}
-use Rattle.extend_lines.proofs.Handing.{bytes_known}
-use Rattle.overhang.proofs.RowLaws.{Turns, turns_start, turns_on, turns_end, turns_far}
+use Rattle.slots.specs.Seats.{slots_measure}
+use Rattle.overhang.proofs.RowLaws.{Turns}
 use Rattle.overhang.proofs.hang.hang_on.Given as goal
 
 abbrev pub invariant-loop-next : goal.invariant-loop-next

@@ -3,7 +3,6 @@
 use mathlib.Core.Bool.{Bool}
 use mathlib.Core.Path.{refl, sym, ap}
 use native.Mathlib.Omega.{arith}
-use borrow.Author.Rules.{rules}
 use Rattle.slots.specs.Seats.{source}
 use Rattle.overhang.proofs.HangLaws.{seat_none, seat_hangs}
 use Rattle.overhang.proofs.hang.hang_seat.Goals as goal

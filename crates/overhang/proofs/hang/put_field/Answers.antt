@@ -1,7 +1,6 @@
 -- `overhang::hang::put_field` meets its contract: the content from 3 on, and the head in front of it.
 -- Assumes nothing.
 use native.Mathlib.Omega.{arith}
-use borrow.Author.Rules.{rules}
 use Rattle.overhang.proofs.HangLaws.{puts_hanging}
 use Rattle.overhang.proofs.hang.put_field.Goals as goal
 

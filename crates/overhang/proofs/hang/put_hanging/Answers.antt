@@ -1,9 +1,8 @@
 -- `overhang::hang::put_hanging` meets its contract: the field stands in the part of the store behind the others.
 -- Assumes nothing.
-use mathlib.Core.Logic.{inl, inr, ⊎_elim}
+use mathlib.Core.Logic.{inl, inr}
 use mathlib.Core.Path.{refl}
 use native.Mathlib.Omega.{arith}
-use borrow.Author.Rules.{rules}
 use Rattle.overhang.proofs.HangLaws.{hangs_on}
 use Rattle.overhang.proofs.hang.put_hanging.Goals as goal
 use Rattle.overhang.proofs.hang.put_hanging.Goals.{then-lines, else-lines}

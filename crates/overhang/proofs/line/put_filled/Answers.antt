@@ -1,7 +1,6 @@
 -- `overhang::line::put_filled` meets its contract: a text is padded, another line is a border.
 -- Assumes nothing.
 use native.Mathlib.Omega.{arith}
-use borrow.Author.Rules.{rules}
 use Rattle.extend_lines.proofs.Handing.{bytes_known}
 use Rattle.overhang.proofs.FillLaws.{filled_text, filled_border}
 use Rattle.overhang.proofs.line.put_filled.Goals as goal

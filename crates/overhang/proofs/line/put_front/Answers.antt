@@ -1,7 +1,6 @@
 -- `overhang::line::put_front` meets its contract: a head and an annotation, and of a G a count.
 -- Assumes nothing.
 use native.Mathlib.Omega.{arith}
-use borrow.Author.Rules.{rules}
 use Rattle.overhang.proofs.FillLaws.{front_holed, front_plain}
 use Rattle.overhang.proofs.line.put_front.Goals as goal
 

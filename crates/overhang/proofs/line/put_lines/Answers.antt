@@ -1,5 +1,5 @@
 use mathlib.Core.Path.{◌≡◌, sym, subst, ◌∙◌}
-use Prim.Native.Nat.{◌+◌, ◌-◌, ◌<◌}
+use Prim.Native.Nat.{◌+◌, ◌<◌}
 use native.Mathlib.Omega.{arith}
 use borrow.Author.Rules.{rules}
 use lib.ListN.{drop}
@@ -7,7 +7,7 @@ use Rattle.fields.proofs.Parts.{part_length}
 use Rattle.fields.specs.Field.{Short, field_at}
 use Rattle.fields.specs.declared.field.Field.TheVariants.{At}
 use Rattle.bodies.proofs.FieldLaws.{FoundAt, found_at}
-use Rattle.overhang.proofs.LinesLaws.{Laying, lay_start, lay_low, lay_on, lay_end, lay_broken, lay_ended, lay_in}
+use Rattle.overhang.proofs.LinesLaws.{lay_start, lay_low, lay_on, lay_end, lay_broken, lay_ended, lay_in}
 use Rattle.overhang.proofs.line.put_lines.Goals as goal
 
 pub loop-at-init : goal.loop-at-init

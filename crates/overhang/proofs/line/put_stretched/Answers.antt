@@ -2,7 +2,6 @@
 -- Assumes nothing.
 use Prim.Native.Nat.{ℕ}
 use native.Mathlib.Omega.{arith}
-use borrow.Author.Rules.{rules}
 use lib.ListN.{length, length-replicate}
 use Rattle.fields.proofs.Parts.{part_length}
 use Rattle.extend_lines.proofs.Handing.{bytes_known}

@@ -1,6 +1,5 @@
 -- `overhang::line::put_text` meets its contract: the pieces as they stand, spaces up to the width, and the head in front of them.
 -- Assumes nothing.
-use borrow.Author.Rules.{rules}
 use Rattle.overhang.proofs.FillLaws.{text_in, text_base, text_order, puts_text, pieces_room, pad_room}
 use Rattle.overhang.proofs.line.put_text.Goals as goal
 

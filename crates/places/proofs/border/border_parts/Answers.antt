@@ -1,7 +1,6 @@
 -- `border::border_parts` meets its contract.
 -- Assumes nothing.
 use Rattle.places.proofs.BorderLaws.{plain_found, plain_none}
-use native.Mathlib.Omega.{arith}
 use borrow.Author.Rules.{rules}
 use Rattle.places.proofs.border.border_parts.Goals as goal
 

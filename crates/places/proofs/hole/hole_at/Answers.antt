@@ -2,7 +2,6 @@
 -- Assumes nothing.
 use Rattle.places.proofs.HoleLaws.{hole_end, hole_short, hole_cut, hole_whole}
 use native.Mathlib.Omega.{arith}
-use borrow.Author.Rules.{rules}
 use Rattle.places.proofs.hole.hole_at.Goals as goal
 
 pub returns-then-n-at : goal.returns-then-n-at

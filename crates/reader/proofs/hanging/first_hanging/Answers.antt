@@ -1,6 +1,5 @@
 -- `reader::hanging::first_hanging` meets its contract.
 -- Assumes nothing.
-use borrow.Author.Rules.{rules}
 use Rattle.reader.proofs.hanging.first_hanging.Goals as goal
 
 pub returns : goal.returns

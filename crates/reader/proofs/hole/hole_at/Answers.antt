@@ -1,7 +1,6 @@
 -- `reader::hole::hole_at` meets its contract: a column, and what the piece behind it is.
 -- Assumes nothing.
 use mathlib.Core.Path.{◌∙◌, sym}
-use borrow.Author.Rules.{rules}
 use Rattle.reader.proofs.Places.{hole_outside, hole_end, hole_short, hole_is}
 use Rattle.reader.proofs.hole.hole_at.Goals as goal
 

@@ -1,6 +1,5 @@
 -- `reader::line::holed_border` meets its contract: an annotation, a number of segments, and holes up to the end.
 -- Assumes nothing.
-use borrow.Author.Rules.{rules}
 use Rattle.reader.proofs.Places.{border_short, border_full, border_holed}
 use Rattle.reader.proofs.line.holed_border.Goals as goal
 

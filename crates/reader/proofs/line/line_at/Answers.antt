@@ -1,7 +1,6 @@
 -- `reader::line::line_at` meets its contract: what the field at the place is.
 -- Assumes nothing.
 use mathlib.Core.Path.{◌≡◌, ◌∙◌, sym}
-use borrow.Author.Rules.{rules}
 use lib.ListN.{drop}
 use Rattle.fields.specs.Field.{field_at}
 use Rattle.fields.specs.declared.field.Field.TheVariants as field

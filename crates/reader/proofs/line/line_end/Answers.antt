@@ -1,7 +1,6 @@
 -- `reader::line::line_end` meets its contract: the end of the line that `line_at` finds.
 -- Assumes nothing.
 use mathlib.Core.Path.{◌∙◌, sym}
-use borrow.Author.Rules.{rules}
 use Rattle.reader.proofs.Places.{line_end_is}
 use Rattle.reader.proofs.line.line_end.Goals as goal
 

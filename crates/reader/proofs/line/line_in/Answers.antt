@@ -2,16 +2,10 @@
 -- Assumes nothing.
 use mathlib.Core.Path.{◌≡◌, refl, ◌∙◌, sym}
 use Prim.Native.Nat.{ℕ}
-use mathlib.Core.Logic.{⊎_elim}
-use native.Mathlib.Omega.{arith}
-use borrow.Author.Rules.{rules}
 use lib.Seq.{length-take-le}
-use types.Run.{OneOf}
-use denote.Enum.Declared.{tag_of}
 use Rattle.reader.specs.Reading.{in_cell}
 use Rattle.reader.specs.declared.line.Line.{Line}
 use Rattle.reader.specs.declared.line.Line.TheVariants as line
-use Rattle.reader.specs.contracts.line.Line as L
 use Rattle.reader.proofs.Places.{line_outside, line_inside}
 use Rattle.reader.proofs.line.line_in.Goals as goal
 

@@ -1,9 +1,5 @@
-use mathlib.Core.Path.{◌≡◌, ◌∙◌, sym}
-use Prim.Native.Nat.{◌-◌}
-use borrow.Author.Rules.{rules}
-use lib.ListN.{length}
+use mathlib.Core.Path.{◌∙◌, sym}
 use Rattle.reader.proofs.Places.{line_falls, lines_end_here, lines_end_next}
-use Rattle.reader.specs.Reading.{lines_end}
 use Rattle.reader.proofs.line.lines_end.Goals as goal
 
 pub returns-then-next-place : goal.returns-then-next-place

@@ -1,10 +1,8 @@
 -- `reader::line::lines_end` meets its contract. The loop's invariant: from the place on the lines end where they do from the first one on. The measure is what is left of the sheet.
 -- Assumes nothing.
-use mathlib.Core.Path.{◌≡◌, ◌∙◌, sym}
+use mathlib.Core.Path.{◌≡◌}
 use Prim.Native.Nat.{◌-◌}
-use borrow.Author.Rules.{rules}
 use lib.ListN.{length}
-use Rattle.reader.proofs.Places.{line_falls, lines_end_here, lines_end_next}
 use Rattle.reader.specs.Reading.{lines_end}
 use Rattle.reader.proofs.line.lines_end.Given as goal
 

@@ -1,7 +1,6 @@
 -- `reader::line::name_of` meets its contract: the part between a name's places.
 -- Assumes nothing.
 use mathlib.Core.Path.{◌∙◌}
-use borrow.Author.Rules.{rules}
 use Rattle.reader.specs.Reading.{name_of}
 use Rattle.reader.proofs.Places.{part_empty}
 use Rattle.reader.proofs.line.name_of.Goals as goal

@@ -1,6 +1,5 @@
 -- `reader::line::part_of` meets its contract.
 -- Assumes nothing.
-use borrow.Author.Rules.{rules}
 use Rattle.reader.proofs.Places.{part_crossed, part_outside, part_inside}
 use Rattle.reader.proofs.line.part_of.Goals as goal
 

@@ -1,6 +1,5 @@
 -- `reader::line::plain_border` meets its contract: an annotation, and segments up to the end.
 -- Assumes nothing.
-use borrow.Author.Rules.{rules}
 use Rattle.reader.proofs.Places.{border_bare, border_plain}
 use Rattle.reader.proofs.line.plain_border.Goals as goal
 

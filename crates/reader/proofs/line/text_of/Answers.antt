@@ -1,7 +1,6 @@
 -- `reader::line::text_of` meets its contract: the part between a text's places.
 -- Assumes nothing.
 use mathlib.Core.Path.{◌∙◌}
-use borrow.Author.Rules.{rules}
 use Rattle.reader.specs.Reading.{text_of}
 use Rattle.reader.proofs.Places.{part_empty}
 use Rattle.reader.proofs.line.text_of.Goals as goal

@@ -1,6 +1,5 @@
 -- `reader::waiting::first_waiting` meets its contract.
 -- Assumes nothing.
-use borrow.Author.Rules.{rules}
 use Rattle.reader.proofs.waiting.first_waiting.Goals as goal
 
 pub returns : goal.returns

@@ -1,7 +1,6 @@
 -- `reader::waiting::name_end` meets its contract: the end of the name that `waiting_at` finds.
 -- Assumes nothing.
 use mathlib.Core.Path.{◌∙◌, sym}
-use borrow.Author.Rules.{rules}
 use Rattle.reader.proofs.Places.{name_end_is}
 use Rattle.reader.proofs.waiting.name_end.Goals as goal
 

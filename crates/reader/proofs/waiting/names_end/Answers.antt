@@ -1,9 +1,5 @@
-use mathlib.Core.Path.{◌≡◌, ◌∙◌, sym}
-use Prim.Native.Nat.{◌-◌}
-use borrow.Author.Rules.{rules}
-use lib.ListN.{length}
+use mathlib.Core.Path.{◌∙◌, sym}
 use Rattle.reader.proofs.Places.{name_falls, names_end_here, names_end_next}
-use Rattle.reader.specs.Reading.{names_end}
 use Rattle.reader.proofs.waiting.names_end.Goals as goal
 
 pub returns-then-next-place : goal.returns-then-next-place

@@ -1,10 +1,8 @@
 -- `reader::waiting::names_end` meets its contract. The loop's invariant: from the place on the names end where they do from the first one on. The measure is what is left of the sheet.
 -- Assumes nothing.
-use mathlib.Core.Path.{◌≡◌, ◌∙◌, sym}
+use mathlib.Core.Path.{◌≡◌}
 use Prim.Native.Nat.{◌-◌}
-use borrow.Author.Rules.{rules}
 use lib.ListN.{length}
-use Rattle.reader.proofs.Places.{name_falls, names_end_here, names_end_next}
 use Rattle.reader.specs.Reading.{names_end}
 use Rattle.reader.proofs.waiting.names_end.Given as goal
 

@@ -1,7 +1,6 @@
 -- `render::body::add_field` meets its contract: a name, what is neither, and a text, by the tests of the code.
 -- Assumes nothing.
 use native.Mathlib.Omega.{arith}
-use borrow.Author.Rules.{rules}
 use Rattle.add_text.proofs.Walking.{lent_word}
 use Rattle.fields.proofs.Jobs.{name_units, other_read}
 use Rattle.render.proofs.Adding.{short_wrong, mode_wrong, run_small, text_bytes_lem, adds_name, adds_nothing, adds_text}
@@ -29,10 +28,13 @@ returns-then-content-gt2 c =
 
 pub add_text-requires : goal.add_text-requires
 add_text-requires c =
-    record { counts_within_units = c.requires.counts_within_units; run_small = (
+    record {
+      counts_within_units = c.requires.counts_within_units;
+      run_small = (
         run_small _ c.args.content.now c.run_of-run.ensures c.if-content-gt2.false (c.type_inv.content 1).fits (c.type_inv.content 2).fits,
         omega (arith, text_bytes_lem c.args.letter c.args.content.now c.if-letter-ne84.false c.if-content-lt3.false c.if-content-gt2.false, c.requires.content_bound),
-      ) }
+      );
+    }
 
 pub returns : goal.returns
 returns c =

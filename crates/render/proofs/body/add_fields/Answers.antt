@@ -1,10 +1,8 @@
 use mathlib.Core.Path.{sym, ◌∙◌}
-use Prim.Native.Nat.{◌-◌}
 use native.Mathlib.Omega.{arith}
-use lib.ListN.{length}
 use borrow.Author.Rules.{rules}
 use Rattle.fields.proofs.Fields.{FieldIs, field_is, field_broken, field_end}
-use Rattle.render.proofs.Adding.{Added, added_start, added_end, added_broken, units_next, added_on, added_narrow}
+use Rattle.render.proofs.Adding.{added_start, added_end, added_broken, units_next, added_on, added_narrow}
 use Rattle.render.proofs.body.add_fields.Goals as goal
 
 pub loop-letter-init : goal.loop-letter-init

@@ -1,12 +1,8 @@
 -- `render::body::add_fields` meets its contract: the fields left, from the block as it now stands, give what all fields give. The measure is the bytes left.
 -- Assumes nothing.
-use mathlib.Core.Path.{sym, ◌∙◌}
 use Prim.Native.Nat.{◌-◌}
-use native.Mathlib.Omega.{arith}
 use lib.ListN.{length}
-use borrow.Author.Rules.{rules}
-use Rattle.fields.proofs.Fields.{FieldIs, field_is, field_broken, field_end}
-use Rattle.render.proofs.Adding.{Added, added_start, added_end, added_broken, units_next, added_on, added_narrow}
+use Rattle.render.proofs.Adding.{Added}
 use Rattle.render.proofs.body.add_fields.Given as goal
 
 abbrev pub invariant-loop-letter : goal.invariant-loop-letter

@@ -1,6 +1,5 @@
 -- `render::body::run_of` meets its contract: each field is a byte of the T field.
 -- Assumes nothing.
-use borrow.Author.Rules.{rules}
 use Rattle.render.proofs.body.run_of.Goals as goal
 
 pub returns : goal.returns

@@ -3,7 +3,6 @@
 use mathlib.Core.Path.{refl, sym}
 use native.Mathlib.Omega.{arith}
 use lib.Seq.{length-take-le}
-use borrow.Author.Rules.{rules}
 use Rattle.lines.specs.Items.{items}
 use Rattle.hard_wrap.specs.Hold.{setup}
 use Rattle.flush_word.specs.Keep.{CountsWithinUnits}

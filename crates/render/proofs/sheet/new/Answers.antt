@@ -1,7 +1,6 @@
 -- `render::sheet::new` meets its contract: no word and no blanks, as their functions say.
 -- Assumes nothing.
 use mathlib.Core.Bool.{false}
-use borrow.Author.Rules.{rules}
 use Rattle.render.proofs.sheet.new.Goals as goal
 
 pub returns : goal.returns

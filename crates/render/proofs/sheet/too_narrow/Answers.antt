@@ -1,6 +1,5 @@
 -- `render::sheet::too_narrow` meets its contract: the refusal zeroes the whole store.
 -- Assumes nothing.
-use borrow.Author.Rules.{rules}
 use Rattle.render.proofs.sheet.too_narrow.Goals as goal
 
 pub returns : goal.returns

@@ -2,7 +2,6 @@
 -- Assumes nothing.
 use mathlib.Core.Path.{ap}
 use native.Mathlib.Omega.{arith}
-use borrow.Author.Rules.{rules}
 use Rattle.flush_word.specs.declared.state.State.{State}
 use Rattle.render.proofs.Finishing.{small_fresh, wraps_done, wraps_narrow}
 use Rattle.render.proofs.sheet.wrap_fields.Goals as goal

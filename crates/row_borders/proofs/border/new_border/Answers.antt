@@ -1,6 +1,5 @@
 -- `border::new_border` meets its contract. Assumes nothing.
 use mathlib.Core.Path.{◌∙◌}
-use borrow.Author.Rules.{rules}
 use Rattle.row_borders.proofs.BorderLaws.{new_plain, new_joined}
 use Rattle.row_borders.proofs.border.new_border.Goals as goal
 

@@ -1,6 +1,5 @@
 -- `border::next_border` meets its contract. Assumes nothing.
 use mathlib.Core.Path.{◌∙◌}
-use borrow.Author.Rules.{rules}
 use Rattle.row_borders.proofs.BorderLaws.{below_plain, below_collapsed}
 use Rattle.row_borders.proofs.border.next_border.Goals as goal
 

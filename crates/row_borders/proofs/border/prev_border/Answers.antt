@@ -1,6 +1,5 @@
 -- `border::prev_border` meets its contract: the segments copied, joined, stretched and merged. Assumes nothing.
 use mathlib.Core.Path.{◌∙◌}
-use borrow.Author.Rules.{rules}
 use Rattle.row_borders.proofs.BorderLaws.{above_plain, above_collapsed}
 use Rattle.row_borders.proofs.border.prev_border.Goals as goal
 

@@ -1,6 +1,5 @@
 -- `join::join_edges` meets its contract: the kept seats, and then those ahead. Assumes nothing.
 use mathlib.Core.Path.{◌∙◌}
-use borrow.Author.Rules.{rules}
 use Rattle.row_borders.proofs.JoinLaws.{edges_more, edges_all}
 use Rattle.row_borders.proofs.join.join_edges.Goals as goal
 

@@ -1,10 +1,6 @@
-use mathlib.Core.Path.{◌≡◌, refl, ◌∙◌}
-use Prim.Native.Nat.{◌-◌, ◌≤◌}
+use mathlib.Core.Path.{refl, ◌∙◌}
 use native.Mathlib.Omega.{arith}
-use borrow.Author.Rules.{rules}
-use lib.ListN.{length}
-use Rattle.row_borders.proofs.JoinLaws.{KeptJoins, kept_starts, kept_goes, kept_ends}
-use Rattle.row_borders.specs.Join.{JoinedIn}
+use Rattle.row_borders.proofs.JoinLaws.{kept_starts, kept_goes, kept_ends}
 use Rattle.row_borders.proofs.join.join_kept.Goals as goal
 
 pub loop-k-init : goal.loop-k-init

@@ -1,10 +1,8 @@
 -- `join::join_kept` meets its contract: the edges before the first k seats are joined, and joining the others gives the whole. Assumes nothing.
-use mathlib.Core.Path.{◌≡◌, refl, ◌∙◌}
+use mathlib.Core.Path.{◌≡◌}
 use Prim.Native.Nat.{◌-◌, ◌≤◌}
-use native.Mathlib.Omega.{arith}
-use borrow.Author.Rules.{rules}
 use lib.ListN.{length}
-use Rattle.row_borders.proofs.JoinLaws.{KeptJoins, kept_starts, kept_goes, kept_ends}
+use Rattle.row_borders.proofs.JoinLaws.{KeptJoins}
 use Rattle.row_borders.specs.Join.{JoinedIn}
 use Rattle.row_borders.proofs.join.join_kept.Given as goal
 

@@ -1,10 +1,8 @@
 -- `join::join_rest` meets its contract: joining before the seats that are ahead gives the whole. Assumes nothing.
-use mathlib.Core.Path.{◌≡◌, refl, subst, ◌∙◌}
-use native.Mathlib.Omega.{arith}
-use borrow.Author.Rules.{rules}
+use mathlib.Core.Path.{◌≡◌}
 use lib.ListN.{length}
-use Rattle.slots.specs.Seats.{SlotsIn, slots_measure, NextIn, FindsNext}
-use Rattle.row_borders.proofs.JoinLaws.{RestJoins, rest_starts, rest_goes, rest_ends}
+use Rattle.slots.specs.Seats.{SlotsIn, slots_measure}
+use Rattle.row_borders.proofs.JoinLaws.{RestJoins}
 use Rattle.row_borders.specs.Join.{JoinedIn}
 use Rattle.row_borders.proofs.join.join_rest.Given as goal
 

@@ -1,9 +1,6 @@
-use mathlib.Core.Path.{◌≡◌, refl, ◌∙◌}
-use Prim.Native.Nat.{◌-◌, ◌≤◌, ◌<◌}
+use mathlib.Core.Path.{refl, ◌∙◌}
 use native.Mathlib.Omega.{arith}
-use borrow.Author.Rules.{rules}
-use lib.ListN.{length}
-use Rattle.row_borders.proofs.MergeLaws.{KeptSoFar, kept_starts, kept_goes, kept_ends}
+use Rattle.row_borders.proofs.MergeLaws.{kept_starts, kept_goes, kept_ends}
 use Rattle.row_borders.proofs.merge.merge_kept.Goals as goal
 
 pub loop-k-init : goal.loop-k-init
@@ -59,13 +56,12 @@ loop-k-smaller c =
     omega (arith, c.loop-k-test.true)
 
 pub loop-k-preserved : goal.loop-k-preserved
-loop-k-preserved c =
-    (
-      omega (arith, c.loop-k-test.true),
-      c.merge_seat-merged.ensures.border_len_unchanged ∙ c.loop-k.invariant.1,
-      c.advance-pos.ensures.upper_bound,
-      kept_goes _ _ _ _ _ c.args.at.now c.args.end.now c.args.width.now c.args.hung.now _ _ _ _ _ _ _ _ c.loop-k-test.true c.merge_seat-merged.ensures.merges_seat c.advance-pos.ensures.advances c.loop-k.invariant.3,
-    )
+loop-k-preserved c = (
+  omega (arith, c.loop-k-test.true),
+  c.merge_seat-merged.ensures.border_len_unchanged ∙ c.loop-k.invariant.1,
+  c.advance-pos.ensures.upper_bound,
+  kept_goes _ _ _ _ _ c.args.at.now c.args.end.now c.args.width.now c.args.hung.now _ _ _ _ _ _ _ _ c.loop-k-test.true c.merge_seat-merged.ensures.merges_seat c.advance-pos.ensures.advances c.loop-k.invariant.3,
+)
 
 pub returns : goal.returns
 returns c =

@@ -1,10 +1,8 @@
 -- `merge::merge_kept` meets its contract: the first k seats are merged, and merging the others gives the whole. Assumes nothing.
-use mathlib.Core.Path.{◌≡◌, refl, ◌∙◌}
+use mathlib.Core.Path.{◌≡◌}
 use Prim.Native.Nat.{◌-◌, ◌≤◌, ◌<◌}
-use native.Mathlib.Omega.{arith}
-use borrow.Author.Rules.{rules}
 use lib.ListN.{length}
-use Rattle.row_borders.proofs.MergeLaws.{KeptSoFar, kept_starts, kept_goes, kept_ends}
+use Rattle.row_borders.proofs.MergeLaws.{KeptSoFar}
 use Rattle.row_borders.proofs.merge.merge_kept.Given as goal
 
 abbrev pub invariant-loop-k : goal.invariant-loop-k

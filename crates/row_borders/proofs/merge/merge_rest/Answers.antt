@@ -1,10 +1,7 @@
-use mathlib.Core.Path.{◌≡◌, refl, subst, ◌∙◌}
-use Prim.Native.Nat.{◌<◌}
+use mathlib.Core.Path.{refl, subst, ◌∙◌}
 use native.Mathlib.Omega.{arith}
-use borrow.Author.Rules.{rules}
-use lib.ListN.{length}
-use Rattle.slots.specs.Seats.{SlotsIn, slots_measure, NextIn, FindsNext}
-use Rattle.row_borders.proofs.MergeLaws.{RestSoFar, rest_starts, rest_goes, rest_ends}
+use Rattle.slots.specs.Seats.{NextIn, FindsNext}
+use Rattle.row_borders.proofs.MergeLaws.{rest_starts, rest_goes, rest_ends}
 use Rattle.row_borders.proofs.merge.merge_rest.Goals as goal
 
 pub loop-seat-init : goal.loop-seat-init

@@ -1,11 +1,9 @@
 -- `merge::merge_rest` meets its contract: merging the seats that are ahead gives the whole. Assumes nothing.
-use mathlib.Core.Path.{◌≡◌, refl, subst, ◌∙◌}
+use mathlib.Core.Path.{◌≡◌}
 use Prim.Native.Nat.{◌<◌}
-use native.Mathlib.Omega.{arith}
-use borrow.Author.Rules.{rules}
 use lib.ListN.{length}
-use Rattle.slots.specs.Seats.{SlotsIn, slots_measure, NextIn, FindsNext}
-use Rattle.row_borders.proofs.MergeLaws.{RestSoFar, rest_starts, rest_goes, rest_ends}
+use Rattle.slots.specs.Seats.{SlotsIn, slots_measure}
+use Rattle.row_borders.proofs.MergeLaws.{RestSoFar}
 use Rattle.row_borders.proofs.merge.merge_rest.Given as goal
 
 abbrev pub invariant-loop-seat : goal.invariant-loop-seat

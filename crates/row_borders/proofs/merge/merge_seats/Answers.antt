@@ -1,6 +1,5 @@
 -- `merge::merge_seats` meets its contract: the kept seats, and then those ahead. Assumes nothing.
 use mathlib.Core.Path.{◌∙◌}
-use borrow.Author.Rules.{rules}
 use Rattle.row_borders.proofs.MergeLaws.{seats_more, seats_all}
 use Rattle.row_borders.proofs.merge.merge_seats.Goals as goal
 

@@ -1,5 +1,4 @@
 -- `row::over_of` meets its contract. Assumes nothing.
-use borrow.Author.Rules.{rules}
 use Rattle.row_fit.proofs.RowLaws.{over_stays, over_new}
 use Rattle.row_fit.proofs.row.over_of.Goals as goal
 

@@ -1,7 +1,6 @@
 use mathlib.Core.Path.{subst}
-use borrow.Author.Rules.{rules}
-use Rattle.slots.specs.Seats.{slots_measure, NextIn, FindsNext}
-use Rattle.row_fit.proofs.FitLaws.{Seen, seat_wide, seen_start, seen_on, seen_end}
+use Rattle.slots.specs.Seats.{NextIn, FindsNext}
+use Rattle.row_fit.proofs.FitLaws.{seat_wide, seen_start, seen_on, seen_end}
 use Rattle.row_fit.proofs.row.row_fit.Goals as goal
 
 pub first_reach-r-requires : goal.first_reach-r-requires

@@ -1,8 +1,6 @@
 -- `row::row_fit` meets its contract. Assumes nothing.
-use mathlib.Core.Path.{subst}
-use borrow.Author.Rules.{rules}
-use Rattle.slots.specs.Seats.{slots_measure, NextIn, FindsNext}
-use Rattle.row_fit.proofs.FitLaws.{Seen, seat_wide, seen_start, seen_on, seen_end}
+use Rattle.slots.specs.Seats.{slots_measure}
+use Rattle.row_fit.proofs.FitLaws.{Seen}
 use Rattle.row_fit.proofs.row.row_fit.Given as goal
 
 abbrev pub invariant-loop-seat : goal.invariant-loop-seat

@@ -1,7 +1,6 @@
 -- `seat::bottom_join` meets its contract. Assumes nothing.
 use mathlib.Core.Path.{sym, subst, ◌∙◌}
 use native.Mathlib.Omega.{arith}
-use borrow.Author.Rules.{rules}
 use Rattle.fields.specs.Field.{Short}
 use Rattle.bodies.proofs.FieldLaws.{found_at}
 use Rattle.row_fit.proofs.SeatLaws.{join_none, join_there, join_broken, join_ended, join_small, parts_inside}

@@ -1,5 +1,4 @@
 -- `seat::join_step` meets its contract. Assumes nothing.
-use borrow.Author.Rules.{rules}
 use Rattle.row_fit.proofs.SeatLaws.{step_joins, step_stays}
 use Rattle.row_fit.proofs.seat.join_step.Goals as goal
 

@@ -1,10 +1,7 @@
-use mathlib.Core.Path.{◌≡◌, refl}
-use Prim.Native.Nat.{◌-◌, ◌≤◌}
+use mathlib.Core.Path.{refl}
 use native.Mathlib.Omega.{arith}
-use lib.ListN.{get_or, length, drop}
-use borrow.Author.Rules.{rules}
+use lib.ListN.{get_or}
 use Rattle.borders.specs.BorderSegHoriz.{joins_above}
-use Rattle.row_fit.specs.Seat.{last_join}
 use Rattle.row_fit.proofs.SeatLaws.{step_low, join_more, join_ends}
 use Rattle.row_fit.proofs.seat.last_join.Goals as goal
 

@@ -1,12 +1,8 @@
 -- `seat::last_join` meets its contract. Assumes nothing.
-use mathlib.Core.Path.{◌≡◌, refl}
+use mathlib.Core.Path.{◌≡◌}
 use Prim.Native.Nat.{◌-◌, ◌≤◌}
-use native.Mathlib.Omega.{arith}
-use lib.ListN.{get_or, length, drop}
-use borrow.Author.Rules.{rules}
-use Rattle.borders.specs.BorderSegHoriz.{joins_above}
+use lib.ListN.{length, drop}
 use Rattle.row_fit.specs.Seat.{last_join}
-use Rattle.row_fit.proofs.SeatLaws.{step_low, join_more, join_ends}
 use Rattle.row_fit.proofs.seat.last_join.Given as goal
 
 abbrev pub invariant-loop-i : goal.invariant-loop-i

@@ -1,5 +1,4 @@
 -- `seat::line_overlaps` meets its contract. Assumes nothing.
-use borrow.Author.Rules.{rules}
 use Rattle.row_fit.proofs.SeatLaws.{crosses_not, crosses_holed}
 use Rattle.row_fit.proofs.seat.line_overlaps.Goals as goal
 

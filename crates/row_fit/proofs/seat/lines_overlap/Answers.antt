@@ -1,10 +1,8 @@
 use mathlib.Core.Path.{sym, subst, ◌∙◌}
-use Prim.Native.Nat.{◌-◌, ◌≤◌}
 use native.Mathlib.Omega.{arith}
-use borrow.Author.Rules.{rules}
 use Rattle.fields.specs.Field.{Short}
 use Rattle.bodies.proofs.FieldLaws.{found_at}
-use Rattle.row_fit.proofs.SeatLaws.{content_small, Crossing, cross_start, cross_on, cross_found, cross_all, cross_done, cross_broken, cross_ended}
+use Rattle.row_fit.proofs.SeatLaws.{content_small, cross_start, cross_on, cross_found, cross_all, cross_done, cross_broken, cross_ended}
 use Rattle.row_fit.proofs.seat.lines_overlap.Goals as goal
 
 pub loop-i-init : goal.loop-i-init

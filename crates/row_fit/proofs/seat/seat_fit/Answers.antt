@@ -1,6 +1,5 @@
 -- `seat::seat_fit` meets its contract. Assumes nothing.
 use native.Mathlib.Omega.{arith}
-use borrow.Author.Rules.{rules}
 use Rattle.row_fit.proofs.SeatLaws.{fit_ends, fit_hangs}
 use Rattle.row_fit.proofs.seat.seat_fit.Goals as goal
 

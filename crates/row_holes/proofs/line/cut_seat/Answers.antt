@@ -5,7 +5,6 @@ use native.Mathlib.Omega.{arith}
 use borrow.Author.Tests.{not-true, not-false}
 use Rattle.fields.proofs.Parts.{part_length}
 use Rattle.row_holes.proofs.ThroughLaws.{small_laid, cut_there, cut_laid, cut_long}
-use borrow.Author.Rules.{rules}
 use Rattle.row_holes.proofs.line.cut_seat.Goals as goal
 
 pub line_through-t-requires : goal.line_through-t-requires

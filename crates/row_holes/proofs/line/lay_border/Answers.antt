@@ -1,6 +1,5 @@
 -- `line::lay_border` meets its contract: the pieces are pushed onto an empty line. Assumes nothing.
 use mathlib.Core.Path.{refl}
-use native.Mathlib.Omega.{arith}
 use Rattle.row_holes.proofs.ThroughLaws.{new_within, at_least, lays_border}
 use borrow.Author.Rules.{rules}
 use Rattle.row_holes.proofs.line.lay_border.Goals as goal

@@ -6,7 +6,6 @@ use native.Mathlib.Omega.{arith}
 use Rattle.fields.proofs.Fields.{FieldIs}
 use Rattle.tagged_line.proofs.Laying.{content_size}
 use Rattle.row_holes.proofs.ThroughLaws.{found_in, in_none, in_text, in_laid, through_none, through_text, through_border, through_broken, through_end}
-use borrow.Author.Rules.{rules}
 use Rattle.row_holes.proofs.line.line_through.Goals as goal
 
 pub returns-then-stop-p : goal.returns-then-stop-p

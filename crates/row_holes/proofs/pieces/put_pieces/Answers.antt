@@ -1,17 +1,11 @@
-use mathlib.Core.Path.{◌≡◌, refl, sym, ◌∙◌}
-use Prim.Native.Nat.{◌+◌, ◌-◌, ◌*◌, ◌≤◌}
+use mathlib.Core.Path.{refl, sym, ◌∙◌}
 use native.Mathlib.Omega.{arith}
 use lib.Dec.{leb}
 use lib.ListN.{length}
 use Rattle.fields.specs.Field.{part}
-use mathlib.Core.List.{List}
 use Rattle.fields.proofs.Fields.{FieldIs, field_is, field_broken, field_end}
-use Rattle.fields.specs.Sheet.{str}
 use Rattle.tagged_line.proofs.Laying.{content_size}
-use Rattle.fields.specs.Spans.{Hole}
-use Rattle.row_holes.specs.Pieces.{with_spaces}
-use Rattle.row_holes.proofs.PieceLaws.{Reached, reach_start, reach_on, reach_broken, reach_full, reach_short, PutFor, put_none, put_then, put_one, put_spaces, put_grown, put_last}
-use borrow.Author.Rules.{rules}
+use Rattle.row_holes.proofs.PieceLaws.{reach_start, reach_on, reach_broken, reach_full, reach_short, PutFor, put_none, put_then, put_one, put_spaces, put_grown, put_last}
 use Rattle.row_holes.proofs.pieces.put_pieces.Goals as goal
 
 pub loop-letter-init : goal.loop-letter-init

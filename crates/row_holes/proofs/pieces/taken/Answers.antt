@@ -2,7 +2,6 @@
 use native.Mathlib.Omega.{arith}
 use borrow.Author.Tests.{not-true, not-false}
 use Rattle.row_holes.proofs.PieceLaws.{takes_not_last, takes_name, takes_empty, takes_other, takes_own}
-use borrow.Author.Rules.{rules}
 use Rattle.row_holes.proofs.pieces.taken.Goals as goal
 
 pub returns-then-not-last : goal.returns-then-not-last

@@ -1,9 +1,7 @@
-use mathlib.Core.Path.{◌≡◌, refl, subst, ◌∙◌}
+use mathlib.Core.Path.{refl, subst, ◌∙◌}
 use native.Mathlib.Omega.{arith}
-use borrow.Author.Rules.{rules}
-use lib.ListN.{length}
-use Rattle.slots.specs.Seats.{slots_measure, NextIn, FindsNext}
-use Rattle.row_holes.proofs.RowLaws.{Cutting, cut_start, cut_on, cut_end, cuts_room}
+use Rattle.slots.specs.Seats.{NextIn, FindsNext}
+use Rattle.row_holes.proofs.RowLaws.{cut_start, cut_on, cut_end, cuts_room}
 use Rattle.row_holes.proofs.row.cut_holes.Goals as goal
 
 pub loop-seat-init : goal.loop-seat-init

@@ -1,11 +1,9 @@
 -- `row::cut_holes` meets its contract: the border is cut for the seats passed, and the others are ahead.
 -- Assumes nothing.
-use mathlib.Core.Path.{◌≡◌, refl, subst, ◌∙◌}
-use native.Mathlib.Omega.{arith}
-use borrow.Author.Rules.{rules}
+use mathlib.Core.Path.{◌≡◌}
 use lib.ListN.{length}
-use Rattle.slots.specs.Seats.{slots_measure, NextIn, FindsNext}
-use Rattle.row_holes.proofs.RowLaws.{Cutting, cut_start, cut_on, cut_end, cuts_room}
+use Rattle.slots.specs.Seats.{slots_measure}
+use Rattle.row_holes.proofs.RowLaws.{Cutting}
 use Rattle.row_holes.proofs.row.cut_holes.Given as goal
 
 abbrev pub invariant-loop-seat : goal.invariant-loop-seat

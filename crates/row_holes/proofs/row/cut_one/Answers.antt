@@ -2,7 +2,6 @@
 -- Assumes nothing.
 use mathlib.Core.Path.{refl}
 use native.Mathlib.Omega.{arith}
-use borrow.Author.Rules.{rules}
 use Rattle.row_holes.proofs.RowLaws.{seat_inside, cuts_one, cuts_none}
 use Rattle.row_holes.proofs.row.cut_one.Goals as goal
 

@@ -1,9 +1,7 @@
-use mathlib.Core.Path.{◌≡◌, refl, subst, ◌∙◌}
+use mathlib.Core.Path.{refl, subst, ◌∙◌}
 use native.Mathlib.Omega.{arith}
-use borrow.Author.Rules.{rules}
-use lib.ListN.{length}
-use Rattle.slots.specs.Seats.{slots_measure, NextIn, FindsNext}
-use Rattle.row_holes.proofs.RowLaws.{Putting, put_start, put_on, put_past, put_end, puts_room, end_in, past_in}
+use Rattle.slots.specs.Seats.{NextIn, FindsNext}
+use Rattle.row_holes.proofs.RowLaws.{put_start, put_on, put_past, put_end, puts_room, end_in, past_in}
 use Rattle.row_holes.proofs.row.put_holes.Goals as goal
 
 pub loop-seat-init : goal.loop-seat-init

@@ -1,11 +1,9 @@
 -- `row::put_holes` meets its contract: the holes of the seats passed are put, and the others are ahead.
 -- Assumes nothing.
-use mathlib.Core.Path.{◌≡◌, refl, subst, ◌∙◌}
-use native.Mathlib.Omega.{arith}
-use borrow.Author.Rules.{rules}
+use mathlib.Core.Path.{◌≡◌}
 use lib.ListN.{length}
-use Rattle.slots.specs.Seats.{slots_measure, NextIn, FindsNext}
-use Rattle.row_holes.proofs.RowLaws.{Putting, put_start, put_on, put_past, put_end, puts_room, end_in, past_in}
+use Rattle.slots.specs.Seats.{slots_measure}
+use Rattle.row_holes.proofs.RowLaws.{Putting}
 use Rattle.row_holes.proofs.row.put_holes.Given as goal
 
 abbrev pub invariant-loop-seat : goal.invariant-loop-seat

@@ -2,7 +2,6 @@
 -- Assumes nothing.
 use mathlib.Core.Path.{refl}
 use native.Mathlib.Omega.{arith}
-use borrow.Author.Rules.{rules}
 use Rattle.row_holes.proofs.RowLaws.{seat_inside, puts_one, puts_none, puts_past}
 use Rattle.row_holes.proofs.row.put_one.Goals as goal
 

@@ -1,8 +1,8 @@
 use native.Mathlib.Omega.{arith}
 use mathlib.Core.Path.{sym, subst, ◌∙◌}
-use Rattle.slots.specs.Seats.{slots_measure, NextIn, FindsNext}
-use Rattle.row_lines.proofs.RowLaws.{start_of, start_new, start_low}
-use Rattle.row_holes.proofs.TextLaws.{TextLaid, text_start, text_room, text_last, text_on, text_long, text_end, long_begun, end_begun, begun_there}
+use Rattle.slots.specs.Seats.{NextIn, FindsNext}
+use Rattle.row_lines.proofs.RowLaws.{start_new, start_low}
+use Rattle.row_holes.proofs.TextLaws.{text_start, text_room, text_last, text_on, text_long, text_end, long_begun, end_begun, begun_there}
 use borrow.Author.Rules.{rules}
 use Rattle.row_holes.proofs.text.push_holes.Goals as goal
 

@@ -1,10 +1,7 @@
 -- `text::push_holes` meets its contract: the holes of the seats passed are on the line, and the others are ahead. Assumes nothing.
-use native.Mathlib.Omega.{arith}
-use mathlib.Core.Path.{sym, subst, ◌∙◌}
-use Rattle.slots.specs.Seats.{slots_measure, NextIn, FindsNext}
-use Rattle.row_lines.proofs.RowLaws.{start_of, start_new, start_low}
-use Rattle.row_holes.proofs.TextLaws.{TextLaid, text_start, text_room, text_last, text_on, text_long, text_end, long_begun, end_begun, begun_there}
-use borrow.Author.Rules.{rules}
+use Rattle.slots.specs.Seats.{slots_measure}
+use Rattle.row_lines.proofs.RowLaws.{start_of}
+use Rattle.row_holes.proofs.TextLaws.{TextLaid}
 use Rattle.row_holes.proofs.text.push_holes.Given as goal
 
 abbrev pub invariant-loop-st : goal.invariant-loop-st

@@ -2,7 +2,6 @@
 use native.Mathlib.Omega.{arith}
 use Rattle.tagged_line.proofs.Laying.{grown_more}
 use Rattle.row_holes.proofs.TextLaws.{line_text, line_border_pushed}
-use borrow.Author.Rules.{rules}
 use Rattle.row_holes.proofs.text.push_line.Goals as goal
 
 pub returns-then-letter-eq76 : goal.returns-then-letter-eq76

@@ -3,7 +3,6 @@ use native.Mathlib.Omega.{arith}
 use Rattle.tagged_line.proofs.Laying.{grown_none}
 use Rattle.row_holes.proofs.RowLaws.{seat_inside}
 use Rattle.row_holes.proofs.TextLaws.{one_none, one_on}
-use borrow.Author.Rules.{rules}
 use Rattle.row_holes.proofs.text.push_one.Goals as goal
 
 pub returns-then-seat-lt2 : goal.returns-then-seat-lt2

@@ -7,7 +7,6 @@ use Rattle.holes.proofs.DrawLaws.{grown_on}
 use Rattle.tagged_line.proofs.Laying.{grown_none, content_size}
 use Rattle.row_holes.proofs.ThroughLaws.{found_in}
 use Rattle.row_holes.proofs.TextLaws.{seat_none, seat_there, seat_broken, seat_ended}
-use borrow.Author.Rules.{rules}
 use Rattle.row_holes.proofs.text.push_seat.Goals as goal
 
 pub returns-then-stop-p : goal.returns-then-stop-p

@@ -3,7 +3,6 @@ use native.Mathlib.Omega.{arith}
 use Rattle.fields.proofs.Parts.{part_length}
 use Rattle.tagged_line.proofs.Laying.{grown_none, grown_more}
 use Rattle.row_holes.proofs.TextLaws.{segments_none, segments_drawn}
-use borrow.Author.Rules.{rules}
 use Rattle.row_holes.proofs.text.push_segments.Goals as goal
 
 pub returns-then-to-pos : goal.returns-then-to-pos

@@ -4,7 +4,6 @@ use borrow.Author.Tests.{not-true, not-false}
 use Rattle.holes.proofs.DrawLaws.{grown_on}
 use Rattle.tagged_line.proofs.Laying.{grown_none}
 use Rattle.row_holes.proofs.TextLaws.{there_none, there_on}
-use borrow.Author.Rules.{rules}
 use Rattle.row_holes.proofs.text.push_there.Goals as goal
 
 pub returns-then-not-c : goal.returns-then-not-c

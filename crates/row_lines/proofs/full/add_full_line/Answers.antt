@@ -14,10 +14,13 @@ too_long-requires c =
 
 pub returns-then-names-gt65535 : goal.returns-then-names-gt65535
 returns-then-names-gt65535 c =
-    record { one_line_more = c.too_long.ensures.0; adds_full_line = names_counted c.args.out.now c.args.lines c.args.names.now c.args.options c.args.cells.now c.args.sheet.now c.args.at.now c.args.end.now c.args.width.now c.args.to.now c.args.hung.now
+    record {
+      one_line_more = c.too_long.ensures.0;
+      adds_full_line = names_counted c.args.out.now c.args.lines c.args.names.now c.args.options c.args.cells.now c.args.sheet.now c.args.at.now c.args.end.now c.args.width.now c.args.to.now c.args.hung.now
           c.args.collapse c.args.n c.args.more c.args.rest c.args.i c.args.marks.now _
           (bytes_known c.args.names.now (λ i. omega (arith, c.type_inv.names i))) c.if-names-gt65535.true
-          c.too_long.ensures.0.count c.too_long.ensures.1 }
+          c.too_long.ensures.0.count c.too_long.ensures.1;
+    }
 
 pub begin_line-begun-requires : goal.begin_line-begun-requires
 begin_line-begun-requires c =
@@ -37,9 +40,12 @@ too_long-requires-then-is_long c =
 
 pub returns-then-is_long : goal.returns-then-is_long
 returns-then-is_long c =
-    record { one_line_more = c.too_long-then-is_long.ensures.0; adds_full_line = full_counted c.args.out.now c.args.lines c.args.names.now c.args.options c.args.cells.now c.args.sheet.now c.args.at.now c.args.end.now c.args.width.now c.args.to.now c.args.hung.now
+    record {
+      one_line_more = c.too_long-then-is_long.ensures.0;
+      adds_full_line = full_counted c.args.out.now c.args.lines c.args.names.now c.args.options c.args.cells.now c.args.sheet.now c.args.at.now c.args.end.now c.args.width.now c.args.to.now c.args.hung.now
           c.args.collapse c.args.n c.args.more c.args.rest c.args.i c.args.marks.now _ _ _ _ _ _ _ c.begin_line-begun.ensures.begins_line c.lay_full-line.ensures.lays_full (search rules)
-          (sym c.is_long.ensures ∙ c.if-is_long.true) c.too_long-then-is_long.ensures.0.count c.too_long-then-is_long.ensures.1 }
+          (sym c.is_long.ensures ∙ c.if-is_long.true) c.too_long-then-is_long.ensures.0.count c.too_long-then-is_long.ensures.1;
+    }
 
 pub add_text_line-requires : goal.add_text_line-requires
 add_text_line-requires c =
@@ -47,6 +53,9 @@ add_text_line-requires c =
 
 pub returns : goal.returns
 returns c =
-    record { one_line_more = c.add_text_line.ensures.one_line_more; adds_full_line = full_added c.args.out.now c.args.lines c.args.names.now c.args.options c.args.cells.now c.args.sheet.now c.args.at.now c.args.end.now c.args.width.now c.args.to.now c.args.hung.now
+    record {
+      one_line_more = c.add_text_line.ensures.one_line_more;
+      adds_full_line = full_added c.args.out.now c.args.lines c.args.names.now c.args.options c.args.cells.now c.args.sheet.now c.args.at.now c.args.end.now c.args.width.now c.args.to.now c.args.hung.now
           c.args.collapse c.args.n c.args.more c.args.rest c.args.i c.args.marks.now _ _ _ _ _ _ _ c.begin_line-begun.ensures.begins_line c.lay_full-line.ensures.lays_full (search rules) _
-          (sym c.is_long.ensures ∙ c.if-is_long.false) c.add_text_line.ensures.adds_text_line }
+          (sym c.is_long.ensures ∙ c.if-is_long.false) c.add_text_line.ensures.adds_text_line;
+    }

@@ -1,7 +1,6 @@
 use mathlib.Core.Path.{refl}
-use Prim.Native.Nat.{◌-◌}
 use native.Mathlib.Omega.{arith}
-use Rattle.row_lines.proofs.FullLaws.{FullLaid, fulls_start, fulls_on, fulls_long, fulls_end}
+use Rattle.row_lines.proofs.FullLaws.{fulls_start, fulls_on, fulls_long, fulls_end}
 use borrow.Author.Rules.{rules}
 use Rattle.row_lines.proofs.full.add_full_lines.Goals as goal
 

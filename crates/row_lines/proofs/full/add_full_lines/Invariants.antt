@@ -1,10 +1,7 @@
 -- `full::add_full_lines` meets its contract: the lines that were added, and those that the seats have left, are all lines of the row; the
 -- first of them took the names. Assumes nothing.
-use mathlib.Core.Path.{refl}
 use Prim.Native.Nat.{◌-◌}
-use native.Mathlib.Omega.{arith}
-use Rattle.row_lines.proofs.FullLaws.{FullLaid, fulls_start, fulls_on, fulls_long, fulls_end}
-use borrow.Author.Rules.{rules}
+use Rattle.row_lines.proofs.FullLaws.{FullLaid}
 use Rattle.row_lines.proofs.full.add_full_lines.Given as goal
 
 abbrev pub invariant-loop-i : goal.invariant-loop-i

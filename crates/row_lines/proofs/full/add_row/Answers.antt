@@ -14,5 +14,5 @@ returns c =
       out_len_unchanged = (search rules, search rules);
       adds_row =
           row_added c.args.out.now _ c.args.lines _ c.args.names.now c.args.options c.args.cells.now c.args.sheet.now c.args.at.now _ c.args.end.now c.args.width.now c.args.to.now c.args.hung.now
-              c.args.collapse c.args.kept _ c.args.height c.start_seats.ensures c.start_ahead.ensures c.add_full_lines.ensures.adds_full;
+          c.args.collapse c.args.kept _ c.args.height c.start_seats.ensures c.start_ahead.ensures c.add_full_lines.ensures.adds_full;
     }

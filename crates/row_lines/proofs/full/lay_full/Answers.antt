@@ -2,7 +2,6 @@
 use mathlib.Core.Path.{sym, ◌∙◌}
 use Rattle.row_lines.proofs.FullLaws.{full_kept, full_long, full_rest}
 use borrow.Author.Tests.{not-true, not-false}
-use borrow.Author.Rules.{rules}
 use Rattle.row_lines.proofs.full.lay_full.Goals as goal
 
 pub lay_kept-line-requires : goal.lay_kept-line-requires

@@ -1,6 +1,5 @@
 -- `long::is_long` meets its contract. Assumes nothing.
 use borrow.Author.Tests.{lt-ltb, le-ltb}
-use borrow.Author.Rules.{rules}
 use Rattle.row_lines.proofs.long.is_long.Goals as goal
 
 pub returns-then-line-gt131070 : goal.returns-then-line-gt131070

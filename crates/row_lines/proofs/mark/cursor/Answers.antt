@@ -2,7 +2,6 @@
 use mathlib.Core.Path.{ap₂}
 use Prim.Native.Nat.{ℕ, ◌+◌, ◌*◌}
 use Rattle.row_lines.proofs.MarkLaws.{cursor_mark, cursor_found}
-use borrow.Author.Rules.{rules}
 use Rattle.row_lines.proofs.mark.cursor.Goals as goal
 
 pub returns-then-k-marks : goal.returns-then-k-marks

@@ -1,6 +1,5 @@
 -- `mark::first_place` meets its contract: behind a first border that collapsing takes off, or at the start. Assumes nothing.
 use Rattle.row_lines.proofs.MarkLaws.{first_off, first_plain}
-use borrow.Author.Rules.{rules}
 use Rattle.row_lines.proofs.mark.first_place.Goals as goal
 
 pub returns-then-collapse : goal.returns-then-collapse

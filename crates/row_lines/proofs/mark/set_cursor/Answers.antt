@@ -3,7 +3,6 @@ use mathlib.Core.Path.{refl}
 use native.Mathlib.Omega.{arith}
 use lib.ListN.{length-set}
 use Rattle.row_lines.proofs.MarkLaws.{set_mark}
-use borrow.Author.Rules.{rules}
 use Rattle.row_lines.proofs.mark.set_cursor.Goals as goal
 
 pub bounds-marks-k-2 : goal.bounds-marks-k-2

@@ -1,7 +1,6 @@
 -- `mark::start_ahead` meets its contract: the marks are started, or no seat is ahead. Assumes nothing.
 use Rattle.row_lines.proofs.MarkLaws.{ahead_none}
 use borrow.Author.Tests.{not-true}
-use borrow.Author.Rules.{rules}
 use Rattle.row_lines.proofs.mark.start_ahead.Goals as goal
 
 pub returns-then-not-more : goal.returns-then-not-more

@@ -4,7 +4,6 @@ use native.Mathlib.Omega.{arith}
 use Rattle.row_lines.proofs.RestLaws.{starts_mark, hung_inside, laid_inside, part_short}
 use Rattle.slots.specs.Seats.{source}
 use Rattle.extend_lines.proofs.Handing.{bytes_known}
-use borrow.Author.Rules.{rules}
 use Rattle.row_lines.proofs.mark.start_mark.Goals as goal
 
 pub slice_bounds-first_place-end : goal.slice_bounds-first_place-end

@@ -1,7 +1,6 @@
 use mathlib.Core.Path.{subst}
-use Rattle.row_lines.proofs.RestLaws.{MarksSet, marks_start, marks_end, marks_on}
-use Rattle.slots.specs.Seats.{slots_measure, NextIn, FindsNext}
-use borrow.Author.Rules.{rules}
+use Rattle.row_lines.proofs.RestLaws.{marks_start, marks_end, marks_on}
+use Rattle.slots.specs.Seats.{NextIn, FindsNext}
 use Rattle.row_lines.proofs.mark.start_marks.Goals as goal
 
 pub loop-seat-init : goal.loop-seat-init

@@ -1,8 +1,6 @@
 -- `mark::start_marks` meets its contract: the marks of the seats that were passed stand at their first lines. Assumes nothing.
-use mathlib.Core.Path.{subst}
-use Rattle.row_lines.proofs.RestLaws.{MarksSet, marks_start, marks_end, marks_on}
-use Rattle.slots.specs.Seats.{slots_measure, NextIn, FindsNext}
-use borrow.Author.Rules.{rules}
+use Rattle.row_lines.proofs.RestLaws.{MarksSet}
+use Rattle.slots.specs.Seats.{slots_measure}
 use Rattle.row_lines.proofs.mark.start_marks.Given as goal
 
 abbrev pub invariant-loop-seat : goal.invariant-loop-seat

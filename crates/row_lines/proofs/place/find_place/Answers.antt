@@ -1,9 +1,8 @@
 use mathlib.Core.Path.{◌≡◌, subst}
-use Prim.Native.Nat.{ℕ, ◌-◌, ◌≤◌}
+use Prim.Native.Nat.{ℕ}
 use native.Mathlib.Omega.{arith}
 use Rattle.row_lines.proofs.PlaceLaws.{finds_start, finds_on}
 use Rattle.row_lines.specs.Place.{FindsPlace}
-use borrow.Author.Rules.{rules}
 use Rattle.row_lines.proofs.place.find_place.Goals as goal
 
 pub loop-i-init : goal.loop-i-init

@@ -1,7 +1,6 @@
 -- `place::next_place` meets its contract: the place stays where no line is left, and else goes behind the line. Assumes nothing.
 use mathlib.Core.Path.{sym, ◌∙◌}
 use Rattle.row_lines.proofs.PlaceLaws.{moves_none, moves_off, moves_line, moves_broken, moves_end}
-use borrow.Author.Rules.{rules}
 use Rattle.row_lines.proofs.place.next_place.Goals as goal
 
 pub returns-then-end-at : goal.returns-then-end-at

@@ -4,7 +4,6 @@ use native.Mathlib.Omega.{arith}
 use Rattle.row_lines.proofs.RestLaws.{found_added, hung_inside, laid_inside, part_short}
 use Rattle.slots.specs.Seats.{source}
 use Rattle.extend_lines.proofs.Handing.{bytes_known}
-use borrow.Author.Rules.{rules}
 use Rattle.row_lines.proofs.rest.add_found.Goals as goal
 
 pub slice_bounds-add_marked-end : goal.slice_bounds-add_marked-end

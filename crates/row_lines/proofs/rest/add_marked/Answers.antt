@@ -1,7 +1,6 @@
 -- `rest::add_marked` meets its contract: what the seat gives from its mark on, and the mark behind it. Assumes nothing.
 use mathlib.Core.Path.{refl}
 use Rattle.row_lines.proofs.RestLaws.{marked_added}
-use borrow.Author.Rules.{rules}
 use Rattle.row_lines.proofs.rest.add_marked.Goals as goal
 
 pub returns : goal.returns

@@ -1,7 +1,7 @@
 use mathlib.Core.Path.{sym, subst, ◌∙◌}
-use Rattle.row_lines.proofs.RestLaws.{RestLaid, rest_start, rest_edge, rest_room, rest_long, rest_end, rest_on}
-use Rattle.row_lines.proofs.RowLaws.{start_of, start_begun, begun_from, start_below}
-use Rattle.slots.specs.Seats.{slots_measure, NextIn, FindsNext}
+use Rattle.row_lines.proofs.RestLaws.{rest_start, rest_edge, rest_room, rest_long, rest_end, rest_on}
+use Rattle.row_lines.proofs.RowLaws.{start_begun, begun_from, start_below}
+use Rattle.slots.specs.Seats.{NextIn, FindsNext}
 use borrow.Author.Rules.{rules}
 use Rattle.row_lines.proofs.rest.lay_rest.Goals as goal
 

@@ -1,9 +1,7 @@
 -- `rest::lay_rest` meets its contract: the seats that were passed are on the line, and their marks stand one line further. Assumes nothing.
-use mathlib.Core.Path.{sym, subst, ◌∙◌}
-use Rattle.row_lines.proofs.RestLaws.{RestLaid, rest_start, rest_edge, rest_room, rest_long, rest_end, rest_on}
-use Rattle.row_lines.proofs.RowLaws.{start_of, start_begun, begun_from, start_below}
-use Rattle.slots.specs.Seats.{slots_measure, NextIn, FindsNext}
-use borrow.Author.Rules.{rules}
+use Rattle.row_lines.proofs.RestLaws.{RestLaid}
+use Rattle.row_lines.proofs.RowLaws.{start_of}
+use Rattle.slots.specs.Seats.{slots_measure}
 use Rattle.row_lines.proofs.rest.lay_rest.Given as goal
 
 abbrev pub invariant-loop-options : goal.invariant-loop-options

@@ -1,7 +1,6 @@
 use mathlib.Core.Path.{sym, ◌∙◌}
-use Prim.Native.Nat.{◌-◌}
 use native.Mathlib.Omega.{arith}
-use Rattle.row_lines.proofs.RowLaws.{KeptLaid, kept_start, edge_room, seat_room, kept_on, kept_long, kept_end, start_of, start_begun, start_below, begun_from}
+use Rattle.row_lines.proofs.RowLaws.{kept_start, edge_room, seat_room, kept_on, kept_long, kept_end, start_begun, start_below, begun_from}
 use borrow.Author.Rules.{rules}
 use Rattle.row_lines.proofs.row.lay_kept.Goals as goal
 

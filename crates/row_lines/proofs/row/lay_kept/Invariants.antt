@@ -1,9 +1,6 @@
 -- `row::lay_kept` meets its contract: the seats that were passed are on the line, and stand one line further. Assumes nothing.
-use mathlib.Core.Path.{sym, ◌∙◌}
 use Prim.Native.Nat.{◌-◌}
-use native.Mathlib.Omega.{arith}
-use Rattle.row_lines.proofs.RowLaws.{KeptLaid, kept_start, edge_room, seat_room, kept_on, kept_long, kept_end, start_of, start_begun, start_below, begun_from}
-use borrow.Author.Rules.{rules}
+use Rattle.row_lines.proofs.RowLaws.{KeptLaid, start_of}
 use Rattle.row_lines.proofs.row.lay_kept.Given as goal
 
 abbrev pub invariant-loop-k : goal.invariant-loop-k

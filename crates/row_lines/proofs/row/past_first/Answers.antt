@@ -1,5 +1,4 @@
 -- `row::past_first` meets its contract. Assumes nothing.
-use borrow.Author.Rules.{rules}
 use Rattle.row_lines.proofs.row.past_first.Goals as goal
 
 pub returns-then-hung : goal.returns-then-hung

@@ -1,8 +1,6 @@
-use Prim.Native.Nat.{◌-◌, ◌≤◌}
 use native.Mathlib.Omega.{arith}
 use borrow.Author.Tests.{not-true, not-false}
-use Rattle.row_lines.proofs.StartLaws.{Started, started_none, started_on, starts_plain, starts_off}
-use borrow.Author.Rules.{rules}
+use Rattle.row_lines.proofs.StartLaws.{started_none, started_on, starts_plain, starts_off}
 use Rattle.row_lines.proofs.row.start_seats.Goals as goal
 
 pub returns-then-not-collapse : goal.returns-then-not-collapse

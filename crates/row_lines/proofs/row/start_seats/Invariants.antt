@@ -1,9 +1,6 @@
 -- `row::start_seats` meets its contract: the places that were passed are behind a first border. Assumes nothing.
 use Prim.Native.Nat.{◌-◌, ◌≤◌}
-use native.Mathlib.Omega.{arith}
-use borrow.Author.Tests.{not-true, not-false}
-use Rattle.row_lines.proofs.StartLaws.{Started, started_none, started_on, starts_plain, starts_off}
-use borrow.Author.Rules.{rules}
+use Rattle.row_lines.proofs.StartLaws.{Started}
 use Rattle.row_lines.proofs.row.start_seats.Given as goal
 
 abbrev pub invariant-loop-k : goal.invariant-loop-k

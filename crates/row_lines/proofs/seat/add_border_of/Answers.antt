@@ -2,7 +2,6 @@
 use native.Mathlib.Omega.{arith}
 use Rattle.tagged_line.proofs.Laying.{grown_more}
 use Rattle.row_lines.proofs.SeatLaws.{border_holed}
-use borrow.Author.Rules.{rules}
 use Rattle.row_lines.proofs.seat.add_border_of.Goals as goal
 
 pub returns : goal.returns

@@ -2,10 +2,9 @@
 use mathlib.Core.Path.{◌≡◌, refl}
 use mathlib.Core.Bool.{true}
 use native.Mathlib.Omega.{arith}
-use Rattle.bodies.proofs.FieldLaws.{FoundAt, found_at}
+use Rattle.bodies.proofs.FieldLaws.{found_at}
 use Rattle.row_lines.specs.Seat.{TextIs}
 use Rattle.row_lines.proofs.SeatLaws.{content_short, seat_text}
-use borrow.Author.Rules.{rules}
 use Rattle.row_lines.proofs.seat.add_kept.Goals as goal
 
 pub returns-then-hung : goal.returns-then-hung

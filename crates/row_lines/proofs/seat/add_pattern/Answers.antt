@@ -3,7 +3,6 @@ use native.Mathlib.Omega.{arith}
 use Rattle.fields.proofs.Parts.{part_length}
 use Rattle.tagged_line.proofs.Laying.{grown_more}
 use Rattle.row_lines.proofs.SeatLaws.{pattern_drawn}
-use borrow.Author.Rules.{rules}
 use Rattle.row_lines.proofs.seat.add_pattern.Goals as goal
 
 pub returns : goal.returns

@@ -5,7 +5,6 @@ use native.Mathlib.Omega.{arith}
 use Rattle.tagged_line.proofs.Laying.{grown_none, grown_more}
 use Rattle.bodies.proofs.FieldLaws.{FoundAt, found_at}
 use Rattle.row_lines.proofs.SeatLaws.{found_short, content_short, seat_none, seat_text, seat_pattern, seat_border, seat_broken, seat_end}
-use borrow.Author.Rules.{rules}
 use Rattle.row_lines.proofs.seat.add_seat.Goals as goal
 
 pub returns-then-end-at : goal.returns-then-end-at

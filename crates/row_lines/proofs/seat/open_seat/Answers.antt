@@ -1,7 +1,6 @@
 -- `seat::open_seat` meets its contract: before the first seat stands no edge. Assumes nothing.
 use Rattle.tagged_line.proofs.Laying.{grown_none}
 use Rattle.row_lines.proofs.SeatLaws.{opens_first, opens_later}
-use borrow.Author.Rules.{rules}
 use Rattle.row_lines.proofs.seat.open_seat.Goals as goal
 
 pub returns-then-k-eq0 : goal.returns-then-k-eq0

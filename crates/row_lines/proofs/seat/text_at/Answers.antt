@@ -1,6 +1,5 @@
 -- `seat::text_at` meets its contract: the field at the place, if it is a text. Assumes nothing.
 use Rattle.row_lines.proofs.SeatLaws.{text_none, text_found}
-use borrow.Author.Rules.{rules}
 use Rattle.row_lines.proofs.seat.text_at.Goals as goal
 
 pub returns-then-end-at : goal.returns-then-end-at

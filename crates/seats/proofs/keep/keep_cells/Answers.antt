@@ -1,10 +1,9 @@
 use mathlib.Core.Path.{sym, subst}
-use Prim.Native.Nat.{◌-◌}
 use native.Mathlib.Omega.{arith}
 use borrow.Author.Rules.{rules}
 use Rattle.slots.specs.Seats.{SlotsIn}
-use Rattle.seats.specs.Keep.{CellsAlone, cells_ahead, LaidAt}
-use Rattle.seats.proofs.Keeping.{Loop, cells_start, laid_low, cell_on, cell_stops, cell_fills}
+use Rattle.seats.specs.Keep.{LaidAt}
+use Rattle.seats.proofs.Keeping.{cells_start, laid_low, cell_on, cell_stops, cell_fills}
 use Rattle.seats.proofs.keep.keep_cells.Goals as goal
 
 pub loop-k-init : goal.loop-k-init

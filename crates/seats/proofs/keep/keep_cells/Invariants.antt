@@ -1,11 +1,7 @@
 -- `keep::keep_cells` meets its contract: the first k cells are kept, and the others are ahead. Assumes nothing.
-use mathlib.Core.Path.{sym, subst}
 use Prim.Native.Nat.{◌-◌}
-use native.Mathlib.Omega.{arith}
-use borrow.Author.Rules.{rules}
-use Rattle.slots.specs.Seats.{SlotsIn}
-use Rattle.seats.specs.Keep.{CellsAlone, cells_ahead, LaidAt}
-use Rattle.seats.proofs.Keeping.{Loop, cells_start, laid_low, cell_on, cell_stops, cell_fills}
+use Rattle.seats.specs.Keep.{CellsAlone, cells_ahead}
+use Rattle.seats.proofs.Keeping.{Loop}
 use Rattle.seats.proofs.keep.keep_cells.Given as goal
 
 abbrev pub invariant-loop-k : goal.invariant-loop-k

@@ -2,7 +2,6 @@
 use mathlib.Core.Path.{refl, subst}
 use mathlib.Core.Bool.{true≢false}
 use native.Mathlib.Omega.{arith}
-use borrow.Author.Rules.{rules}
 use Rattle.slots.specs.Seats.{NextIn, FindsNext}
 use Rattle.seats.proofs.keep.keep_rest.Goals as goal
 

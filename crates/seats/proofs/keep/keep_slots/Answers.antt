@@ -1,9 +1,8 @@
 use mathlib.Core.Path.{subst}
-use Prim.Native.Nat.{◌-◌}
 use native.Mathlib.Omega.{arith}
 use borrow.Author.Rules.{rules}
 use Rattle.slots.specs.Seats.{NextIn, FindsNext}
-use Rattle.seats.proofs.Keeping.{Loop, starts, goes_on, stops, fills}
+use Rattle.seats.proofs.Keeping.{starts, goes_on, stops, fills}
 use Rattle.seats.proofs.keep.keep_slots.Goals as goal
 
 pub loop-k-init : goal.loop-k-init

@@ -1,10 +1,6 @@
 -- `keep::keep_slots` meets its contract: the first k seats are kept, and the others are ahead. Assumes nothing.
-use mathlib.Core.Path.{subst}
 use Prim.Native.Nat.{◌-◌}
-use native.Mathlib.Omega.{arith}
-use borrow.Author.Rules.{rules}
-use Rattle.slots.specs.Seats.{NextIn, FindsNext}
-use Rattle.seats.proofs.Keeping.{Loop, starts, goes_on, stops, fills}
+use Rattle.seats.proofs.Keeping.{Loop}
 use Rattle.seats.proofs.keep.keep_slots.Given as goal
 
 abbrev pub invariant-loop-k : goal.invariant-loop-k

@@ -1,7 +1,6 @@
 -- `keep::laid_at` meets its contract. Assumes nothing.
 use Rattle.slots.proofs.SlotLaws.{no_cells}
 use Rattle.seats.proofs.Keeping.{laid_is}
-use borrow.Author.Rules.{rules}
 use Rattle.seats.proofs.keep.laid_at.Goals as goal
 
 pub returns-then-pos-ge4096 : goal.returns-then-pos-ge4096

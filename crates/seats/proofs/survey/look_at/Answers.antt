@@ -1,5 +1,4 @@
 -- `survey::look_at` meets its contract. Assumes nothing.
-use borrow.Author.Rules.{rules}
 use Rattle.seats.proofs.SurveyLaws.{look_in, look_is}
 use Rattle.seats.proofs.survey.look_at.Goals as goal
 

@@ -1,6 +1,5 @@
-use Prim.Native.Nat.{◌-◌, ◌≤◌}
 use native.Mathlib.Omega.{arith}
-use Rattle.seats.proofs.SurveyLaws.{KeptSoFar, kept_starts, kept_goes, kept_ends}
+use Rattle.seats.proofs.SurveyLaws.{kept_starts, kept_goes, kept_ends}
 use Rattle.seats.proofs.survey.look_kept.Goals as goal
 
 pub loop-k-init : goal.loop-k-init

@@ -1,7 +1,6 @@
 -- `survey::look_kept` meets its contract: the first k seats are seen, and what the others add. Assumes nothing.
 use Prim.Native.Nat.{◌-◌, ◌≤◌}
-use native.Mathlib.Omega.{arith}
-use Rattle.seats.proofs.SurveyLaws.{KeptSoFar, kept_starts, kept_goes, kept_ends}
+use Rattle.seats.proofs.SurveyLaws.{KeptSoFar}
 use Rattle.seats.proofs.survey.look_kept.Given as goal
 
 abbrev pub invariant-loop-k : goal.invariant-loop-k

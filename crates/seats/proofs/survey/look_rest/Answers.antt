@@ -1,8 +1,6 @@
 use mathlib.Core.Path.{subst}
-use Prim.Native.Nat.{◌≤◌}
-use borrow.Author.Rules.{rules}
-use Rattle.slots.specs.Seats.{SlotsIn, slots_measure, NextIn, FindsNext}
-use Rattle.seats.proofs.SurveyLaws.{RestSoFar, rest_starts, rest_goes, rest_ends}
+use Rattle.slots.specs.Seats.{NextIn, FindsNext}
+use Rattle.seats.proofs.SurveyLaws.{rest_starts, rest_goes, rest_ends}
 use Rattle.seats.proofs.survey.look_rest.Goals as goal
 
 pub loop-seat-init : goal.loop-seat-init

@@ -1,9 +1,7 @@
 -- `survey::look_rest` meets its contract: those before what is ahead are seen. Assumes nothing.
-use mathlib.Core.Path.{subst}
 use Prim.Native.Nat.{◌≤◌}
-use borrow.Author.Rules.{rules}
-use Rattle.slots.specs.Seats.{SlotsIn, slots_measure, NextIn, FindsNext}
-use Rattle.seats.proofs.SurveyLaws.{RestSoFar, rest_starts, rest_goes, rest_ends}
+use Rattle.slots.specs.Seats.{SlotsIn, slots_measure}
+use Rattle.seats.proofs.SurveyLaws.{RestSoFar}
 use Rattle.seats.proofs.survey.look_rest.Given as goal
 
 abbrev pub invariant-loop-seat : goal.invariant-loop-seat

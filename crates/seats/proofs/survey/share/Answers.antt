@@ -2,7 +2,6 @@
 use native.Mathlib.Omega.{arith}
 use native.Mathlib.Nat.{div-le_self}
 use borrow.Author.Tests.{eq-eqb, ne_eqb}
-use borrow.Author.Rules.{rules}
 use Rattle.seats.proofs.survey.share.Goals as goal
 
 pub returns-then-span-le1 : goal.returns-then-span-le1

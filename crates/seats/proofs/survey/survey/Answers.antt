@@ -1,6 +1,5 @@
 -- `survey::survey` meets its contract: the kept seats, and then those ahead. Assumes nothing.
 use native.Mathlib.Omega.{arith}
-use borrow.Author.Rules.{rules}
 use Rattle.seats.proofs.SurveyLaws.{survey_more, survey_all}
 use Rattle.seats.proofs.survey.survey.Goals as goal
 

@@ -6,10 +6,6 @@ use native.Mathlib.Omega.{arith}
 use Rattle.slots.proofs.Laws.{Found, found_at}
 use Rattle.slots.proofs.CellLaws.{c_found, k_found, empty_found, short_found, broken_found, end_found}
 use borrow.Author.Rules.{rules}
-use Rattle.slots.proofs.cell.cell_at.Reads as reads
-use Rattle.slots.proofs.cell.cell_at.Lts as lts
-use Rattle.fields.proofs.field.field_at.Reads as field-at-reads
-use Rattle.fields.proofs.field.wide.Reads as wide-reads
 use Rattle.slots.proofs.cell.cell_at.Goals as goal
 
 -- src/cell.rt:30:16

@@ -5,10 +5,6 @@ use Rattle.fields.specs.Field.{Short}
 use native.Mathlib.Omega.{arith}
 use Rattle.slots.proofs.Laws.{Found, found_at, hung_short, hung_found, hung_broken, hung_end}
 use borrow.Author.Rules.{rules}
-use Rattle.slots.proofs.hung.hung_at.Reads as reads
-use Rattle.slots.proofs.hung.hung_at.Lts as lts
-use Rattle.fields.proofs.field.field_at.Reads as field-at-reads
-use Rattle.fields.proofs.field.wide.Reads as wide-reads
 use Rattle.slots.proofs.hung.hung_at.Goals as goal
 
 -- src/hung.rt:33:16
@@ -57,9 +53,12 @@ returns-else-next-start-lt4 c =
     let found : Found c.args.sheet.now c.args.at c.in-At.start c.in-At.next = found_at _ _ _ _ _ (sym c.field_at-f.ensures.value ∙ c.in-At.is) in
     let short : c.in-At.next < c.in-At.start + 65536 = subst Short c.in-At.is c.field_at-f.ensures.short in
     let r = found in
-    let n = short in record { hung_in = (search rules, search rules, search rules, omega (arith, r.start_is), omega arith, r.inside, omega (arith, n)); finds_hung = hung_found _ _ _ _ _ _ _ _ (sym c.field_at-f.ensures.value ∙ c.in-At.is)
+    let n = short in record {
+      hung_in = (search rules, search rules, search rules, omega (arith, r.start_is), omega arith, r.inside, omega (arith, n));
+      finds_hung = hung_found _ _ _ _ _ _ _ _ (sym c.field_at-f.ensures.value ∙ c.in-At.is)
           (ap₂ (λ (a b : ℕ). a * 256 + b) c.wide.ensures.value c.wide-in-At.ensures.value)
-          c.wide-width.ensures.value c.wide-rows.ensures.value }
+          c.wide-width.ensures.value c.wide-rows.ensures.value;
+    }
 
 -- src/hung.rt:22:1
 pub returns-in-Broken : goal.returns-in-Broken

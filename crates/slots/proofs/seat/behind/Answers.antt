@@ -1,5 +1,4 @@
 -- `seat::behind` meets its contract. Assumes nothing.
-use borrow.Author.Rules.{rules}
 use Rattle.slots.proofs.SlotSteps.{behind_gap, behind_near}
 use Rattle.slots.proofs.seat.behind.Goals as goal
 

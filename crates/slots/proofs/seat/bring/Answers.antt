@@ -1,6 +1,5 @@
 -- `seat::bring` meets its contract. Assumes nothing.
 use mathlib.Core.Path.{subst}
-use borrow.Author.Rules.{rules}
 use Rattle.slots.specs.Cell.{CellIn, FindsCell}
 use Rattle.slots.proofs.SlotSteps.{bring_ready, bring_full, bring_none, bring_laid}
 use Rattle.slots.proofs.seat.bring.Goals as goal

@@ -1,5 +1,4 @@
 -- `seat::first_slots` meets its contract. Assumes nothing.
-use borrow.Author.Rules.{rules}
 use Rattle.slots.proofs.SlotBounds.{first_in}
 use Rattle.slots.proofs.SlotLaws.{begins}
 use Rattle.slots.proofs.seat.first_slots.Goals as goal

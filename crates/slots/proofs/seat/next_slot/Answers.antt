@@ -2,10 +2,7 @@ use mathlib.Core.Path.{sym, subst}
 use Prim.Native.Nat.{◌≤◌, ◌<◌}
 use Rattle.slots.specs.declared.seat.Seat.{Seat}
 use native.Mathlib.Omega.{arith}
-use borrow.Author.Rules.{rules}
-use Rattle.slots.specs.declared.seat.Slots.{Slots}
 use Rattle.slots.specs.Hung.{HungIn, FindsHung}
-use Rattle.slots.specs.Seats.{slots_measure}
 use Rattle.slots.proofs.SlotSteps.{Walked, walk_start, Met, met, walk_behind, walk_instead, walk_passes, walk_last, walk_end_lem}
 use Rattle.slots.proofs.seat.next_slot.Goals as goal
 

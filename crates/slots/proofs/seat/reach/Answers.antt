@@ -1,6 +1,5 @@
 -- `seat::reach` meets its contract. Assumes nothing.
 use borrow.Author.Tests.{lt-ltb, le-ltb}
-use borrow.Author.Rules.{rules}
 use Rattle.slots.proofs.seat.reach.Goals as goal
 
 pub returns-then-total-pos : goal.returns-then-total-pos

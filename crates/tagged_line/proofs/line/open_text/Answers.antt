@@ -1,7 +1,7 @@
 -- `line::open_text` meets its contract: nothing to put in, the open piece made longer, or a new piece. Assumes nothing.
 use Prim.Native.Nat.{◌+◌, ◌-◌}
 use native.Mathlib.Omega.{arith}
-use mathlib.Core.Logic.{◌⊎◌, inl, inr}
+use mathlib.Core.Logic.{inl, inr}
 use Rattle.tagged_line.proofs.Holding.{open_none, open_same, open_new}
 use borrow.Author.Rules.{rules}
 use Rattle.tagged_line.proofs.line.open_text.Goals as goal

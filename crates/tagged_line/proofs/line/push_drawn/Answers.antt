@@ -3,9 +3,7 @@ use Rattle.tagged_line.proofs.Holding.{drawn_grown, pushed_drawn}
 use lib.ListN.{length}
 use Prim.Native.Nat.{◌-◌}
 use native.Mathlib.Omega.{arith}
-use mathlib.Core.Logic.{◌⊎◌, inl, inr}
 use mathlib.Core.Path.{◌≡◌}
-use borrow.Author.Rules.{rules}
 use Rattle.tagged_line.proofs.line.push_drawn.Goals as goal
 use Rattle.tagged_line.proofs.line.push_drawn.Goals.{then-k-width, else-k-width}
 

@@ -2,7 +2,6 @@
 -- Assumes nothing.
 use mathlib.Core.Path.{refl}
 use native.Mathlib.Omega.{arith}
-use borrow.Author.Rules.{rules}
 use Rattle.fields.specs.Field.{field}
 use Rattle.tagged_line.proofs.Laying.{laid_fragment}
 use Rattle.tagged_line.proofs.piece.add_fragment.Goals as goal

@@ -1,7 +1,6 @@
 -- `piece::add_piece` meets its contract: an S field is a text, and another field that was read is a name.
 -- Assumes nothing.
 use native.Mathlib.Omega.{arith}
-use borrow.Author.Rules.{rules}
 use Rattle.tagged_line.proofs.Laying.{grown_more, laid_text, laid_name}
 use Rattle.tagged_line.proofs.piece.add_piece.Goals as goal
 

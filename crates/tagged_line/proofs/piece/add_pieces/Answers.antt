@@ -1,10 +1,8 @@
 use mathlib.Core.Path.{sym, ◌∙◌}
-use Prim.Native.Nat.{◌-◌}
 use native.Mathlib.Omega.{arith}
 use borrow.Author.Rules.{rules}
-use lib.ListN.{length}
 use Rattle.fields.proofs.Fields.{FieldIs, field_is, field_broken, field_end}
-use Rattle.tagged_line.proofs.Laying.{Laid, content_size, grown_more, lay_start, lay_room, lay_on, lay_broken, lay_end}
+use Rattle.tagged_line.proofs.Laying.{content_size, grown_more, lay_start, lay_room, lay_on, lay_broken, lay_end}
 use Rattle.tagged_line.proofs.piece.add_pieces.Goals as goal
 
 pub loop-letter-init : goal.loop-letter-init

@@ -2,7 +2,6 @@
 -- Assumes nothing.
 use mathlib.Core.Path.{refl}
 use native.Mathlib.Omega.{arith}
-use borrow.Author.Rules.{rules}
 use Rattle.fields.specs.Field.{field}
 use Rattle.tagged_line.proofs.Laying.{grown_none, grown_more, tail_size, laid_short, laid_joined, laid_apart}
 use Rattle.tagged_line.proofs.piece.add_text_piece.Goals as goal

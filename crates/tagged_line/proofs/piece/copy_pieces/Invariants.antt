@@ -1,12 +1,8 @@
 -- `piece::copy_pieces` meets its contract: up to the place, the fields read are the fields written.
 -- Assumes nothing.
-use mathlib.Core.Path.{sym, ◌∙◌}
 use Prim.Native.Nat.{◌-◌}
-use native.Mathlib.Omega.{arith}
-use borrow.Author.Rules.{rules}
 use lib.ListN.{length}
-use Rattle.fields.proofs.Fields.{FieldIs, field_is, field_broken, field_end}
-use Rattle.tagged_line.proofs.Laying.{Copying, content_size, copy_start, copy_on, copy_broken, copy_end}
+use Rattle.tagged_line.proofs.Laying.{Copying}
 use Rattle.tagged_line.proofs.piece.copy_pieces.Given as goal
 
 abbrev pub invariant-loop-letter : goal.invariant-loop-letter
