@@ -1,5 +1,5 @@
 /* Reads a job from standard input and prints its sheet to a terminal, one line of the sheet to a line. From the top folder:
- *   rt staticlib sheet_c && cc -Iinclude examples/print.c target/staticlib/libsheet_c.a -o target/print
+ *   tools/build sheet_c && cc -Iinclude examples/print.c target/staticlib/libsheet_c.a -o target/print
  *   target/print < examples/shelf.job */
 #include <stdio.h>
 #include "sheet.h"

@@ -1,6 +1,6 @@
 /* Viseorchid: text wrapped into the lines of a sheet, and tables laid onto it.
  *
- * The calls of target/staticlib/libsheet_c.a, which `rt staticlib sheet_c` proves and builds; it needs memcpy and memset
+ * The calls of target/staticlib/libsheet_c.a, which `tools/build sheet_c` proves and builds; it needs memcpy and memset
  * and nothing else. Inputs and sheets are fields: a letter, a length of two bytes, high byte first, and that many bytes.
  *   job       W (width, flags: 1 pad, 2 allow overflow; annotation of padding), then any number of
  *             T (mode: 0 Normal, 1 Pre, 2 PreWrap; annotation, annotation of what wraps in Pre, UTF-8 text) and F (name)

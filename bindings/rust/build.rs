@@ -1,5 +1,5 @@
 //! Finds the archive `libsheet_c.a`: in the folder that `SHEET_LIB_DIR` names, else in
-//! `target/staticlib` of the repository, where `rt staticlib sheet_c` writes it.
+//! `target/staticlib` of the repository, where `tools/build sheet_c` writes it.
 
 use std::path::PathBuf;
 use std::{env, process};
@@ -18,7 +18,7 @@ fn main() {
     println!("cargo::rerun-if-changed={}", archive.display());
     if !archive.is_file() {
         println!(
-            "cargo::error={} is missing. Run `rt staticlib sheet_c`, or set SHEET_LIB_DIR to \
+            "cargo::error={} is missing. Run `tools/build sheet_c`, or set SHEET_LIB_DIR to \
              the folder that holds {ARCHIVE}",
             archive.display()
         );

@@ -9,7 +9,7 @@ use native.Mathlib.Omega.{arith}
 use borrow.Author.Tests.{eq-eqb, ne_eqb}
 use lib.ListN.{length, take, drop}
 use lib.Seq.{length-take-le, drop-drop}
-use Rattle.characters.specs.If.{if◌then◌else◌}
+use Rattle.std.specs.Prelude.{if◌then◌else◌}
 use Rattle.characters.specs.Columns.{width_of}
 use Rattle.characters.specs.Whitespace.{always_takes_space}
 use Rattle.characters.specs.Utf8.{decode_of, chars}

@@ -11,7 +11,7 @@ use borrow.Author.Tests.{leb-true, le-leb, lt-leb, not-false}
 use lib.Dec.{leb}
 use lib.Seq.{length-take-le}
 use lib.ListN.{length, take, replicate, length-append, length-replicate, length-set}
-use Rattle.characters.specs.If.{if◌then◌else◌}
+use Rattle.std.specs.Prelude.{if◌then◌else◌}
 use Rattle.characters.proofs.Tests.{lt_or_le, clash}
 use Rattle.fields.specs.Field.{head, two, field, all}
 use Rattle.fields.specs.Sheet.{Piece}

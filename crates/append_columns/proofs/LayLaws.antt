@@ -11,7 +11,7 @@ use lib.ListN.{length, take, drop, length-append, drop_of_length-le}
 use lib.Seq.{take_all}
 use borrow.Author.Tests.{leb-true, eq-eqb, ne_eqb}
 use Rattle.characters.proofs.Tests.{by_if, and_left, and_right}
-use Rattle.characters.specs.If.{if◌then◌else◌}
+use Rattle.std.specs.Prelude.{if◌then◌else◌}
 use Rattle.fields.specs.Field.{raws_f, raws, read_all, part, all}
 use Rattle.fields.specs.Answer.{Verdict, rendered, refused, give}
 use Rattle.fields.specs.declared.answer.Rendered.{Rendered}

@@ -1,7 +1,6 @@
 -- The row: what is asked of it before anything is written, and all that is written.
 -- Assumes nothing: these are definitions.
-use Rattle.std.specs.Prelude.{◌≡◌, Bool, true, false, not, ◌&&◌, List, [], map, ℕ, ◌+◌, ◌≤◌, eqb, length}
-use Rattle.characters.specs.If.{if◌then◌else◌}
+use Rattle.std.specs.Prelude.{◌≡◌, Bool, true, false, not, ◌&&◌, List, [], map, ℕ, ◌+◌, ◌≤◌, eqb, length, if◌then◌else◌}
 use Rattle.fields.specs.Field.{raws, part, all}
 use Rattle.fields.specs.Answer.{rendered, refused, give}
 use Rattle.fields.specs.declared.answer.Rendered.{Rendered}

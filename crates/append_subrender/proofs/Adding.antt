@@ -11,7 +11,7 @@ use lib.Dec.{leb, ltb, eqb}
 use lib.ListN.{length, take, drop, length-drop}
 use lib.Seq.{length-take-le}
 use borrow.Author.Tests.{ne_eqb}
-use Rattle.characters.specs.If.{if◌then◌else◌}
+use Rattle.std.specs.Prelude.{if◌then◌else◌}
 use Rattle.characters.proofs.Tests.{by_if, and_left, and_right, or_left, or_right}
 use Rattle.fields.specs.Field.{Raw, whole, broken, raws, read_all, all}
 use Rattle.fields.specs.Sheet.{Piece, str, fragment, read_str, read_piece, is_segment}

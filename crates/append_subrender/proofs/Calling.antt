@@ -17,7 +17,7 @@ use Rattle.fields.proofs.Parts.{drop_take}
 use Rattle.fields.proofs.Readings.{read_size}
 use Rattle.borders.specs.BorderSegHoriz.{Horiz}
 use Rattle.rows.specs.declared.RenderOptions.{RenderOptions}
-use Rattle.characters.specs.If.{if◌then◌else◌}
+use Rattle.std.specs.Prelude.{if◌then◌else◌}
 use Rattle.characters.proofs.Tests.{and_left}
 use lib.Dec.{leb}
 use borrow.Author.Tests.{leb-true}

@@ -9,7 +9,7 @@ use native.Mathlib.Omega.{arith}
 use lib.Dec.{eqb}
 use lib.ListN.{length, take, drop, get_or, length-drop, length-replicate}
 use lib.Seq.{length-take-le, drop-cons}
-use Rattle.characters.specs.If.{if◌then◌else◌}
+use Rattle.std.specs.Prelude.{if◌then◌else◌}
 use Rattle.characters.proofs.Tests.{and_left, and_right, or_left, or_right}
 use Rattle.fields.specs.Field.{whole, broken, raws, read_all, all}
 use Rattle.fields.proofs.Fields.{FieldIs}

@@ -1,9 +1,8 @@
 -- A guest's lines behind their prefixes: what each function does to the sheet's lines and to the names that wait, for inputs that passed
 -- refusals 1 to 3 and 10.
 -- Assumes nothing: these are definitions.
-use Rattle.std.specs.Prelude.{◌≡◌, Bool, true, false, ◌&&◌, List, [], ◌∷◌, ◌++◌, map, ℕ, ◌+◌, ◌-◌, ◌≤◌, length, take, drop}
+use Rattle.std.specs.Prelude.{◌≡◌, Bool, true, false, ◌&&◌, List, [], ◌∷◌, ◌++◌, map, ℕ, ◌+◌, ◌-◌, ◌≤◌, length, take, drop, if◌then◌else◌}
 use Rattle.std.proofs.Math.Option.{some}
-use Rattle.characters.specs.If.{if◌then◌else◌}
 use Rattle.fields.specs.Field.{whole, raws, read_all, all}
 use Rattle.fields.specs.Text.{readable_text, WellFormed}
 use Rattle.fields.specs.Sheet.{read_prefix}

@@ -11,7 +11,7 @@ use native.Mathlib.Omega.{arith}
 use lib.Dec.{leb, ltb, eqb}
 use lib.ListN.{length, replicate, drop, length-map}
 use borrow.Author.Tests.{le-leb, not-true}
-use Rattle.characters.specs.If.{if◌then◌else◌}
+use Rattle.std.specs.Prelude.{if◌then◌else◌}
 use Rattle.characters.proofs.Tests.{by_if, and_left, and_right}
 use Rattle.fields.specs.Field.{field, Raw, whole, broken, raws, both, read_all, all}
 use Rattle.fields.specs.Text.{readable_text}

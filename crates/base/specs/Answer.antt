@@ -1,8 +1,7 @@
 -- The refusals and the whole calls on a sheet, from bytes to bytes (document 01, "What is refused").
 -- Assumes nothing: these are definitions.
-use Rattle.std.specs.Prelude.{Bool, false, not, ◌&&◌, ◌||◌, List, ℕ, leb, ltb, eqb, length, replicate}
+use Rattle.std.specs.Prelude.{Bool, false, not, ◌&&◌, ◌||◌, List, ℕ, leb, ltb, eqb, length, replicate, if◌then◌else◌}
 use Rattle.std.proofs.Math.Option.{Option, none, some}
-use Rattle.characters.specs.If.{if◌then◌else◌}
 use Rattle.fields.specs.Field.{all}
 use Rattle.fields.specs.Text.{readable_text}
 use Rattle.fields.specs.Sheet.{read_prefixes}

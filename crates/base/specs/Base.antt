@@ -1,9 +1,8 @@
 -- Document 01's sheets and cells among those of requests 2.1 and 2.2, inputs that have none of the requests' fields, and how request 2.1
 -- read a sheet.
 -- Assumes nothing: these are definitions.
-use Rattle.std.specs.Prelude.{Bool, true, not, ◌&&◌, List, [], ◌∷◌, map, ℕ, eqb, drop}
+use Rattle.std.specs.Prelude.{Bool, true, not, ◌&&◌, List, [], ◌∷◌, map, ℕ, eqb, drop, if◌then◌else◌}
 use Rattle.std.proofs.Math.Option.{Option, none, some}
-use Rattle.characters.specs.If.{if◌then◌else◌}
 use Rattle.fields.specs.Field.{Raw, whole, broken, raws, read_all, all}
 use Rattle.base.specs.Sheet.{RenderLine as BaseLine, text as base-text, border as base-border, Cell as BaseCell}
 use Rattle.fields.specs.Answer.{Verdict, refused, sheet}

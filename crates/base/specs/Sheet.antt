@@ -1,8 +1,7 @@
 -- A sheet and a list of cells without holes, names that wait and spans, read from bytes and written to bytes (document 01, "the sheet").
 -- Assumes nothing: these are definitions.
-use Rattle.std.specs.Prelude.{Bool, true, List, [], ◌∷◌, ◌++◌, ℕ, ◌+◌, ◌*◌, eqb, length}
+use Rattle.std.specs.Prelude.{Bool, true, List, [], ◌∷◌, ◌++◌, ℕ, ◌+◌, ◌*◌, eqb, length, if◌then◌else◌}
 use Rattle.std.proofs.Math.Option.{Option, none, some, map}
-use Rattle.characters.specs.If.{if◌then◌else◌}
 use Rattle.fields.specs.Field.{two, field, Raw, whole, broken, raws, read_all, all}
 use Rattle.fields.specs.Sheet.{Piece, read_piece, is_segment, up_to16, readable_piece, pieces_bytes}
 

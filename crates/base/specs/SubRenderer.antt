@@ -1,10 +1,9 @@
 -- The three calls that lay guests onto a sheet (`SubRenderer`) where no cell spans rows, none hangs and no border has holes: one
--- definition for each step of the Rust, its methods under their names with `-` for `_` (document 01, "Rows and blocks on a sheet").
+-- definition for each step of the Rust, its methods under their names (document 01, "Rows and blocks on a sheet").
 -- Assumes nothing: these are definitions.
-use Rattle.std.specs.Prelude.{Bool, true, false, not, ◌&&◌, ◌||◌, List, [], ◌∷◌, ◌++◌, map, ℕ, zero, suc, ◌+◌, ◌-◌, length, replicate}
+use Rattle.std.specs.Prelude.{Bool, true, false, not, ◌&&◌, ◌||◌, List, [], ◌∷◌, ◌++◌, map, ℕ, zero, suc, ◌+◌, ◌-◌, length, replicate, if◌then◌else◌}
 use Rattle.std.proofs.Math.Option
 use Rattle.std.proofs.Math.Option.{Option, none, some, get_or}
-use Rattle.characters.specs.If.{if◌then◌else◌}
 use Rattle.fields.specs.Sheet.{Piece}
 use Rattle.base.specs.Sheet.{RenderLine, text, border, Cell}
 use Rattle.borders.specs.BorderSegHoriz.{Horiz, HorizVert}

@@ -2,7 +2,7 @@
 -- `flush_word` what is left in the word is the names that wait, so no test is needed before it.
 -- Assumes nothing.
 use Rattle.std.proofs.Common.{◌≡◌, ℕ, ◌+◌, Bool, true, false, not, leb, List, [], ◌∷◌, ◌++◌, sym, refl, ap}
-use Rattle.characters.specs.If.{if◌then◌else◌}
+use Rattle.std.specs.Prelude.{if◌then◌else◌}
 use Rattle.characters.proofs.Tests.{by_if}
 use Rattle.fields.specs.declared.job.Setup.{Setup}
 use Rattle.block.specs.Result.{Result, good, too_narrow, ◌>>=◌, OnGood}

@@ -1,7 +1,7 @@
 -- The lines are document 01's: taking the names of a word without text changes no line, in the Rust's form and in the flat one.
 -- Assumes nothing.
 use Rattle.std.proofs.Common.{◌≡◌, ℕ, Bool, true, false, not, ◌↔◌, List, sym, refl, ap, ◌∙◌, arith}
-use Rattle.characters.specs.If.{if◌then◌else◌}
+use Rattle.std.specs.Prelude.{if◌then◌else◌}
 use Rattle.fields.specs.Job.{JobField}
 use Rattle.fields.specs.declared.job.Setup.{Setup}
 use Rattle.block.specs.Tag.{Tag}

@@ -7,9 +7,8 @@
 -- These need no predicate, since a test of the Rust stands before them: `lineleft -= c_w` (`walk`), `self.wslen -= space_in_line` and the
 -- `unwrap` of a blank's tag in Pre (`at_wrap`), `width - my_width` (`pad_to`). `w.saturating_sub(wpos)` (`put_rest`) stops at 0 in the
 -- Rust too. Sums are not asked about. A loop is asked for any fuel, so for any number of turns; after `?` only a good result goes on.
-use Rattle.std.specs.Prelude.{◌≡◌, ℕ, zero, suc, ◌+◌, ◌-◌, ◌%◌, ◌≤◌, min, Bool, true, false, not, ◌&&◌, ◌||◌, List, [], ◌∷◌, length, take, drop, ◌==◌, nat_le, nat_lt}
+use Rattle.std.specs.Prelude.{◌≡◌, ℕ, zero, suc, ◌+◌, ◌-◌, ◌%◌, ◌≤◌, min, Bool, true, false, not, ◌&&◌, ◌||◌, List, [], ◌∷◌, length, take, drop, ◌==◌, nat_le, nat_lt, if◌then◌else◌}
 use Rattle.std.proofs.Math.Option.{Option, none, some}
-use Rattle.characters.specs.If.{if◌then◌else◌}
 use Rattle.characters.specs.Columns.{width_of, cols, str_width}
 use Rattle.characters.specs.Whitespace.{always_takes_space, is_wordbreak_point}
 use Rattle.characters.specs.Utf8.{chars}

@@ -9,7 +9,7 @@ use native.Mathlib.Omega.{arith}
 use lib.Dec.{leb, eqb}
 use lib.ListN.{length, take, drop, get_or}
 use borrow.Author.Tests.{le-leb, lt-leb, ne_eqb}
-use Rattle.characters.specs.If.{if◌then◌else◌}
+use Rattle.std.specs.Prelude.{if◌then◌else◌}
 use Rattle.fields.specs.Field.{whole, broken, raws, read_all}
 use Rattle.fields.specs.First.{first_of, first_over, refusal_of, unless}
 use Rattle.fields.specs.Sheet.{read_piece}

@@ -10,7 +10,7 @@ use lib.Dec.{leb, eqb}
 use lib.ListN.{length, take, drop, length-drop, length-append, drop_of_length-le}
 use lib.Seq.{length-take-le, take-take, take_all}
 use borrow.Author.Tests.{leb-true, le-leb, eq-eqb, ne_eqb}
-use Rattle.characters.specs.If.{if◌then◌else◌}
+use Rattle.std.specs.Prelude.{if◌then◌else◌}
 use Rattle.fields.specs.Field.{Raw, whole, broken, raws, field_at, part}
 use Rattle.fields.specs.declared.field.Field.TheVariants.{At, Broken}
 use Rattle.fields.proofs.Fields.{field_is, raws_nil}

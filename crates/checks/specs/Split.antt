@@ -1,8 +1,7 @@
 -- The fields behind a sheet's head: lines, F fields, V fields.
 -- Assumes nothing: these are definitions.
-use Rattle.std.specs.Prelude.{◌≡◌, Bool, false, List, [], ◌∷◌, ℕ, ◌≤◌, eqb, length, take, drop}
+use Rattle.std.specs.Prelude.{◌≡◌, Bool, false, List, [], ◌∷◌, ℕ, ◌≤◌, eqb, length, take, drop, if◌then◌else◌}
 use Rattle.std.proofs.Math.Option.{some}
-use Rattle.characters.specs.If.{if◌then◌else◌}
 use Rattle.fields.specs.Field.{Raw, whole, broken, raws, part}
 use Rattle.fields.specs.First.{first_of}
 use Rattle.fields.specs.Spans.{Sheet, before_hanging, from_hanging, before_names, from_names, read_sheet}

@@ -1,7 +1,6 @@
 -- Refusals 1, 2 and 3 in the steps of the code.
 -- Assumes nothing: these are definitions.
-use Rattle.std.specs.Prelude.{List, ℕ, leb, eqb}
-use Rattle.characters.specs.If.{if◌then◌else◌}
+use Rattle.std.specs.Prelude.{List, ℕ, leb, eqb, if◌then◌else◌}
 use Rattle.fields.specs.Field.{Raw, raws}
 use Rattle.fields.specs.First.{first_of}
 use Rattle.fields.specs.SpanRefusals.{lines_refusal, hanging_refusal, cell_refusal, plain_cell_refusal}

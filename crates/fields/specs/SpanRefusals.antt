@@ -1,8 +1,7 @@
 -- Refusals 1 to 3 of a sheet and of a list of cells, with the fields of requests 2.1 and 2.2; and over fields as they stand, as code walks
 -- them: each field is judged by itself and the smallest number is given. That they are the same is proved (rows/proofs/Refusing).
 -- Assumes nothing: these are definitions.
-use Rattle.std.specs.Prelude.{not, List, [], ◌∷◌, ℕ, eqb}
-use Rattle.characters.specs.If.{if◌then◌else◌}
+use Rattle.std.specs.Prelude.{not, List, [], ◌∷◌, ℕ, eqb, if◌then◌else◌}
 use Rattle.fields.specs.Field.{Raw, all}
 use Rattle.fields.specs.First.{unless, first_of, first_over, refusal_of}
 use Rattle.fields.specs.Walk.{name_refusal}

@@ -1,9 +1,8 @@
 -- A sheet whose borders may have holes (G), on which names may wait (F) and from which cells may hang (V), and cells that may span rows
 -- (K), read from bytes and written to bytes (requests 2.1 and 2.2). Pieces and prefixes are document 01's.
 -- Assumes nothing: these are definitions.
-use Rattle.std.specs.Prelude.{◌≡◌, Bool, false, not, ◌&&◌, ◌||◌, List, [], ◌∷◌, ◌++◌, ℕ, zero, suc, ◌+◌, ◌*◌, leb, eqb, length, take, drop, get_or}
+use Rattle.std.specs.Prelude.{◌≡◌, Bool, false, not, ◌&&◌, ◌||◌, List, [], ◌∷◌, ◌++◌, ℕ, zero, suc, ◌+◌, ◌*◌, leb, eqb, length, take, drop, get_or, if◌then◌else◌}
 use Rattle.std.proofs.Math.Option.{Option, none, some, map}
-use Rattle.characters.specs.If.{if◌then◌else◌}
 use Rattle.fields.specs.Field.{two, field, Raw, whole, broken, raws, both, read_all, all}
 use Rattle.fields.specs.Text.{readable_text}
 use Rattle.fields.specs.Sheet.{Piece, read_piece, is_segment, up_to16, readable_piece, piece_bytes, pieces_bytes}

@@ -1,9 +1,8 @@
 -- `TaggedLine` over the pieces of a sheet, where a text is its bytes and a tag an annotation: one definition for each method that the
--- calls on a sheet use, under the Rust's name with `-` for `_` (document 01, "Pieces of a line"). The block's `TaggedLine` is over
+-- calls on a sheet use, under the Rust's name (document 01, "Pieces of a line"). The block's `TaggedLine` is over
 -- characters and over tags with a mode; after the block the mode is gone.
 -- Assumes nothing: these are definitions.
-use Rattle.std.specs.Prelude.{Bool, true, false, List, [], ◌∷◌, ◌++◌, ℕ, ◌-◌, eqb, replicate}
-use Rattle.characters.specs.If.{if◌then◌else◌}
+use Rattle.std.specs.Prelude.{Bool, true, false, List, [], ◌∷◌, ◌++◌, ℕ, ◌-◌, eqb, replicate, if◌then◌else◌}
 use Rattle.fields.specs.Sheet.{Piece, str, fragment}
 use Rattle.fields.specs.Widths.{width}
 use Rattle.fields.specs.Text.{WellFormed}

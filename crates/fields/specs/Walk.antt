@@ -1,7 +1,6 @@
 -- The refusals of fields as they stand, as the code walks them: a field is judged by what its list holds (document 01, "What is refused").
 -- Assumes nothing: these are definitions.
-use Rattle.std.specs.Prelude.{false, ℕ}
-use Rattle.characters.specs.If.{if◌then◌else◌}
+use Rattle.std.specs.Prelude.{false, ℕ, if◌then◌else◌}
 use Rattle.fields.specs.Field.{Raw}
 use Rattle.fields.specs.Text.{readable_text}
 use Rattle.fields.specs.First.{refusal_of, unless}

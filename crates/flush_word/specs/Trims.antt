@@ -1,7 +1,6 @@
 -- White space taken off a word's front and a line's end, in the buffers as in the flat lines that they hold.
 -- Assumes nothing: these are definitions.
-use Rattle.std.specs.Prelude.{◌≡◌, List, ◌++◌, ℕ, ◌+◌, ◌-◌, length, drop}
-use Rattle.characters.specs.If.{if◌then◌else◌}
+use Rattle.std.specs.Prelude.{◌≡◌, List, ◌++◌, ℕ, ◌+◌, ◌-◌, length, drop, if◌then◌else◌}
 use Rattle.characters.specs.Utf8.{utf8, Scalar}
 use Rattle.characters.specs.Whitespace.{is_whitespace}
 use Rattle.block.specs.Flat.{Line, columns, trim_front, trim_back}

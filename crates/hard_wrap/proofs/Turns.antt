@@ -9,7 +9,7 @@ use native.Mathlib.Nat.{le_of_eq}
 use native.Mathlib.Omega.{arith}
 use lib.ListN.{length, take, drop}
 use lib.Seq.{take-append_seam, drop-append_seam}
-use Rattle.characters.specs.If.{if◌then◌else◌}
+use Rattle.std.specs.Prelude.{if◌then◌else◌}
 use Rattle.characters.specs.Utf8.{utf8, text_bytes}
 use Rattle.characters.specs.Columns.{cols, str_width}
 use Rattle.characters.proofs.RoundTrip.{Scalars}

@@ -1,10 +1,9 @@
 -- What the lent buffers, the counts and the store hold of the flat block, and the step that each function makes there.
 -- Assumes nothing: these are definitions.
-use Rattle.std.specs.Prelude.{◌≡◌, List, ◌++◌, map, ℕ, ◌+◌, ◌-◌, ◌*◌, ◌^◌, ◌<◌, ◌≤◌, min, length, replicate}
+use Rattle.std.specs.Prelude.{◌≡◌, List, ◌++◌, map, ℕ, ◌+◌, ◌-◌, ◌*◌, ◌^◌, ◌<◌, ◌≤◌, min, length, replicate, if◌then◌else◌}
 use Rattle.std.proofs.Math.Option.{none}
 use Rattle.std.proofs.lemmas.List.Edits.{sets}
 use Rattle.characters.specs.Columns.{str_width}
-use Rattle.characters.specs.If.{if◌then◌else◌}
 use Rattle.characters.specs.Utf8.{text_bytes}
 use Rattle.characters.proofs.RoundTrip.{Scalars}
 use Rattle.fields.specs.Spans.{lines_bytes}

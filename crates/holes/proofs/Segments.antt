@@ -11,7 +11,7 @@ use lib.Dec.{eqb}
 use lib.ListN.{length, take, drop, get_or, replicate, length-append, length-replicate, get_or-replicate, get_or-append, get_or-eq_default}
 use lib.Seq.{ext_get_or, get_or-append-add, get_or-take, get_or-drop}
 use borrow.Author.Tests.{eq-eqb, ne_eqb, lt-ltb, le-ltb}
-use Rattle.characters.specs.If.{if◌then◌else◌}
+use Rattle.std.specs.Prelude.{if◌then◌else◌}
 use Rattle.characters.proofs.Tests.{by_if, lt_or_le}
 use Rattle.fields.specs.Field.{raws, read_all, part, all}
 use Rattle.fields.specs.Sheet.{Piece, str, fragment, read_str, read_piece, readable_piece}

@@ -9,7 +9,7 @@ use native.Mathlib.Omega.{arith}
 use borrow.Author.Tests.{eq-eqb, ne_eqb}
 use lib.Dec.{ltb, eqb}
 use lib.ListN.{length, replicate}
-use Rattle.characters.specs.If.{if◌then◌else◌}
+use Rattle.std.specs.Prelude.{if◌then◌else◌}
 use Rattle.characters.specs.Utf8.{utf8, text_bytes}
 use Rattle.characters.proofs.Tests.{by_if, clash}
 use Rattle.characters.proofs.RoundTrip.{Scalars}

@@ -9,7 +9,7 @@ use native.Mathlib.Omega.{arith}
 use borrow.Author.Tests.{le-leb, lt-leb, ne_eqb}
 use lib.Dec.{eqb}
 use lib.ListN.{length}
-use Rattle.characters.specs.If.{if◌then◌else◌}
+use Rattle.std.specs.Prelude.{if◌then◌else◌}
 use Rattle.characters.specs.Columns.{cols, str_width}
 use Rattle.fields.specs.Job.{Mode, normal, pre, pre_wrap}
 use Rattle.fields.specs.declared.job.Setup.{Setup}

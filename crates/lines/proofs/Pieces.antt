@@ -11,7 +11,7 @@ use borrow.Author.Tests.{eq-eqb, ne_eqb, eqb-true}
 use lib.ListN.{length, take, drop, get_or, length-take, length-drop, drop_of_length-le}
 use lib.Seq.{drop-cons, drop-drop, take-length}
 use lib.Dec.{eqb}
-use Rattle.characters.specs.If.{if◌then◌else◌}
+use Rattle.std.specs.Prelude.{if◌then◌else◌}
 use Rattle.characters.proofs.Tests.{or_true}
 use Rattle.fields.specs.Field.{head, field}
 use Rattle.fields.specs.Store.{Wrote}

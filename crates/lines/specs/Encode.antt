@@ -1,7 +1,6 @@
 -- The pieces of a line of items, and the line's bytes in the house format.
 -- Assumes nothing: these are definitions.
-use Rattle.std.specs.Prelude.{Bool, false, ◌&&◌, ◌||◌, not, ℕ, suc, ◌%◌, List, [], ◌∷◌, ◌++◌, map, eqb}
-use Rattle.characters.specs.If.{if◌then◌else◌}
+use Rattle.std.specs.Prelude.{Bool, false, ◌&&◌, ◌||◌, not, ℕ, suc, ◌%◌, List, [], ◌∷◌, ◌++◌, map, eqb, if◌then◌else◌}
 use Rattle.fields.specs.Field.{field}
 use Rattle.lines.specs.Items.{Item, byte_of, mark_tag, name_tag}
 

@@ -10,7 +10,7 @@ use native.Mathlib.Omega.{arith}
 use native.Mathlib.Numerals.{add-one}
 use lib.ListN.{length, take, drop, set, get_or, replicate, length-append, length-replicate, length-set, length-take}
 use lib.Seq.{drop-cons, take_all, take-take, take-append-le, take-append-add, take-set-lt, take-set-le, take-suc-set, set_out, get_or-take, take-nil}
-use Rattle.characters.specs.If.{if◌then◌else◌}
+use Rattle.std.specs.Prelude.{if◌then◌else◌}
 use Rattle.characters.proofs.Tests.{lt_or_le}
 use Rattle.borders.specs.declared.border.Side.{Side}
 use Rattle.borders.specs.BorderSegHoriz.{Horiz, chop_left, chop_right}

@@ -10,7 +10,7 @@ use lib.Dec.{leb}
 use lib.ListN.{length, take, drop, get_or, length-drop, drop_of_length-le}
 use lib.Seq.{drop-drop, drop-cons, length-take-le, take-take, drop-length}
 use borrow.Author.Tests.{lt-leb, leb-true}
-use Rattle.characters.specs.If.{if◌then◌else◌}
+use Rattle.std.specs.Prelude.{if◌then◌else◌}
 use Rattle.fields.specs.Field.{whole, raws, both, part}
 use Rattle.fields.specs.Sheet.{Piece, read_piece}
 use Rattle.fields.proofs.Fields.{raws_nil, raws_cons}

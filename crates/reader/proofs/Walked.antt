@@ -11,7 +11,7 @@ use lib.Dec.{leb, eqb}
 use lib.ListN.{length, take, drop, get_or, length-drop, drop_of_length-le}
 use lib.Seq.{length-take-le, take-take, drop-drop, drop-cons, get_or-take}
 use borrow.Author.Tests.{eqb-true, leb-true}
-use Rattle.characters.specs.If.{if◌then◌else◌}
+use Rattle.std.specs.Prelude.{if◌then◌else◌}
 use Rattle.characters.proofs.Tests.{lt_or_le}
 use Rattle.fields.specs.Field.{Raw, whole, broken, raws, field_at, both, read_all, all, part}
 use Rattle.fields.specs.Sheet as sheet

@@ -1,8 +1,7 @@
 -- What stands in a sheet at a place, and a walk over all of it (document 01, "What changes shape"; requests 2.1 and 2.2).
 -- Assumes nothing: these are definitions.
-use Rattle.std.specs.Prelude.{◌≡◌, List, [], ◌∷◌, ℕ, zero, suc, ◌+◌, ◌-◌, ◌*◌, leb, ltb, eqb, length, take, drop, get_or}
+use Rattle.std.specs.Prelude.{◌≡◌, List, [], ◌∷◌, ℕ, zero, suc, ◌+◌, ◌-◌, ◌*◌, leb, ltb, eqb, length, take, drop, get_or, if◌then◌else◌}
 use Rattle.std.proofs.Math.Option.{some}
-use Rattle.characters.specs.If.{if◌then◌else◌}
 use Rattle.fields.specs.Field.{field_at}
 use Rattle.fields.specs.Sheet as sheet
 use Rattle.fields.specs.Sheet.{str, fragment}

@@ -7,7 +7,7 @@ use Prim.Native.Nat.{ℕ, ◌+◌}
 use native.Mathlib.Omega.{arith}
 use lib.Dec.{leb}
 use lib.ListN.{length-map}
-use Rattle.characters.specs.If.{if◌then◌else◌}
+use Rattle.std.specs.Prelude.{if◌then◌else◌}
 use Rattle.characters.proofs.Tests.{by_if}
 use Rattle.fields.specs.Spans.{RenderLine, lines_bytes, overhang_bytes, names_bytes, body_bytes}
 use Rattle.fields.specs.Store.{Wrote}

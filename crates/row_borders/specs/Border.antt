@@ -1,7 +1,6 @@
 -- The border above a row and the border below it, before its holes.
 -- Assumes nothing: these are definitions.
-use Rattle.std.specs.Prelude.{Bool, List, map, ℕ, ◌≤◌, length}
-use Rattle.characters.specs.If.{if◌then◌else◌}
+use Rattle.std.specs.Prelude.{Bool, List, map, ℕ, ◌≤◌, length, if◌then◌else◌}
 use Rattle.borders.specs.BorderSegHoriz.{Horiz}
 use Rattle.borders.specs.BorderHoriz.{new_type, join_above}
 use Rattle.rows.specs.Columns.{join_at, Slot, column_of, slot_widths, border_above, border_below}

@@ -10,7 +10,7 @@ use lib.Dec.{leb, ltb, eqb}
 use lib.ListN.{length, drop, get_or, replicate, length-append, length-replicate, length-set, drop_of_length-le}
 use lib.Seq.{drop-cons, drop-drop}
 use borrow.Author.Tests.{ne_eqb, lt-ltb, le-ltb, le-leb, lt-leb, ltb-true, leb-true, leb-false}
-use Rattle.characters.specs.If.{if◌then◌else◌}
+use Rattle.std.specs.Prelude.{if◌then◌else◌}
 use Rattle.characters.proofs.Tests.{by_if, clash, same_test, and_left}
 use Rattle.fields.specs.Field.{whole, raws, field_at, read_all, all, part}
 use Rattle.fields.specs.Sheet.{Piece, read_piece, is_segment}

@@ -1,7 +1,6 @@
 -- Refusal 10 of a row of seats. Positions have no bound, so that the code keeps how far the border and its holes reach past a place.
 -- Assumes nothing: these are definitions.
-use Rattle.std.specs.Prelude.{◌≡◌, Bool, true, false, List, [], ◌∷◌, map, ℕ, zero, suc, ◌+◌, ◌-◌, ◌^◌, ◌≤◌, max, leb, ltb, eqb, length}
-use Rattle.characters.specs.If.{if◌then◌else◌}
+use Rattle.std.specs.Prelude.{◌≡◌, Bool, true, false, List, [], ◌∷◌, map, ℕ, zero, suc, ◌+◌, ◌-◌, ◌^◌, ◌≤◌, max, leb, ltb, eqb, length, if◌then◌else◌}
 use Rattle.fields.specs.Widths.{width}
 use Rattle.rows.specs.declared.RenderOptions.{RenderOptions}
 use Rattle.rows.specs.Columns.{Slot, Column, column_of, bottom_of, columns_height, border_below, row_misfit, holes_of}

@@ -1,8 +1,7 @@
 -- What one seat of a row has to do with refusal 10.
 -- Assumes nothing: these are definitions.
-use Rattle.std.specs.Prelude.{◌≡◌, Bool, true, false, ◌||◌, List, [], ◌∷◌, ℕ, zero, suc, ◌^◌, ◌<◌, leb, ltb, length, drop}
+use Rattle.std.specs.Prelude.{◌≡◌, Bool, true, false, ◌||◌, List, [], ◌∷◌, ℕ, zero, suc, ◌^◌, ◌<◌, leb, ltb, length, drop, if◌then◌else◌}
 use Rattle.std.proofs.Math.Option.{Option, some, get_or}
-use Rattle.characters.specs.If.{if◌then◌else◌}
 use Rattle.fields.specs.Field.{whole}
 use Rattle.fields.specs.Sheet.{Piece}
 use Rattle.fields.specs.Widths.{width}

@@ -1,6 +1,5 @@
 // What one seat has to do with refusal 10.
-ghost use Rattle.std.specs.Prelude.{◌≡◌, ◌&&◌, ◌||◌, suc, ◌≤◌, ◌<◌, ◌^◌, leb, ltb, length};
-ghost use Rattle.characters.specs.If.{if◌then◌else◌};
+ghost use Rattle.std.specs.Prelude.{◌≡◌, ◌&&◌, ◌||◌, suc, ◌≤◌, ◌<◌, ◌^◌, leb, ltb, length, if◌then◌else◌};
 ghost use Rattle.borders.specs.BorderSegHoriz.{joins_above};
 ghost use Rattle.row_fit.specs.Seat.{last_join, FindsJoin, LineCrosses, LinesCross, CountsThrough, FitIn, FindsFit};
 

@@ -11,7 +11,7 @@ use lib.Dec.{eqb, leb}
 use lib.ListN.{length, get_or, replicate, drop, length-drop, drop_of_length-le, length-append, length-replicate}
 use lib.Seq.{sets}
 use borrow.Author.Tests.{eq-eqb, ne_eqb, eqb-true, leb-true, leb-false}
-use Rattle.characters.specs.If.{if◌then◌else◌}
+use Rattle.std.specs.Prelude.{if◌then◌else◌}
 use Rattle.characters.proofs.Tests.{by_if, and_left, and_right}
 use Rattle.fields.specs.Field.{Raw, whole, broken, raws_f, raws, read_all, part, two, head, field, all}
 use Rattle.fields.specs.Sheet.{Piece, str, fragment, read_str, read_piece, piece_bytes}

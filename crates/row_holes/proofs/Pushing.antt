@@ -10,7 +10,7 @@ use native.Mathlib.Omega.{arith}
 use lib.Dec.{eqb, ltb}
 use lib.ListN.{length, drop, length-append}
 use borrow.Author.Tests.{eqb-true}
-use Rattle.characters.specs.If.{if◌then◌else◌}
+use Rattle.std.specs.Prelude.{if◌then◌else◌}
 use Rattle.fields.specs.Field.{part}
 use Rattle.fields.specs.Sheet.{Piece, str, fragment, piece_bytes, pieces_bytes}
 use Rattle.fields.specs.Widths.{piece_width}

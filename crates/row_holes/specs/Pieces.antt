@@ -1,9 +1,8 @@
 -- The pieces of a line as cuts in a border and as holes.
 -- Assumes nothing: these are definitions.
-use Rattle.std.specs.Prelude.{◌≡◌, Bool, true, false, List, ◌∷◌, ◌++◌, ℕ, ◌+◌, ◌%◌, ◌≤◌, eqb, leb, length, replicate}
+use Rattle.std.specs.Prelude.{◌≡◌, Bool, true, false, List, ◌∷◌, ◌++◌, ℕ, ◌+◌, ◌%◌, ◌≤◌, eqb, leb, length, replicate, if◌then◌else◌}
 use Rattle.std.proofs.Math.Option.{some}
 use Rattle.std.proofs.lemmas.List.Edits.{sets}
-use Rattle.characters.specs.If.{if◌then◌else◌}
 use Rattle.fields.specs.Field.{whole, two, head, all}
 use Rattle.fields.specs.Sheet.{Piece, str, fragment, read_piece}
 use Rattle.fields.proofs.Back.{Every}

@@ -9,7 +9,7 @@ use Rattle.fields.specs.Field.{all}
 use Rattle.fields.specs.Text.{allowed_in, readable_text}
 use Rattle.fields.specs.Sheet.{Piece, str, fragment}
 use Rattle.fields.specs.Widths.{width}
-use Rattle.characters.specs.If.{if◌then◌else◌}
+use Rattle.std.specs.Prelude.{if◌then◌else◌}
 use Rattle.fields.specs.TaggedLine.{join, push_str, push, consume, push_ws, insert_front, pad_to}
 use Rattle.fields.proofs.Texts.{text_nil}
 use Rattle.fields.proofs.Back.{Every, every_append, every_replicate, every_all}

@@ -3,7 +3,7 @@
 -- Assumes nothing.
 use Rattle.std.proofs.Common.{◌≡◌, ℕ, zero, suc, ◌+◌, ◌*◌, ◌<◌, ◌≤◌, Bool, true, false, ◌&&◌, eqb, leb, List, [], ◌∷◌, ◌++◌, length, take, drop, sym, refl, ap, ◌∙◌, subst, ap₂, append_assoc, arith, length-drop, take-append-drop, length-take-le, eqb-true, leb-true}
 use mathlib.Core.Option.{Option, none, some, map}
-use Rattle.characters.specs.If.{if◌then◌else◌}
+use Rattle.std.specs.Prelude.{if◌then◌else◌}
 use Rattle.characters.proofs.Tests.{by_if}
 use Rattle.fields.specs.Field.{two, field, Raw, whole, broken, raws, both, read_all, all}
 use Rattle.fields.specs.Sheet.{Piece, read_piece, is_segment, piece_bytes, pieces_bytes}

@@ -8,7 +8,7 @@ use native.Mathlib.Omega.{arith}
 use lib.Dec.{leb}
 use lib.ListN.{length, drop, get_or, drop_of_length-le}
 use borrow.Author.Tests.{le-leb, leb-true, leb-false}
-use Rattle.characters.specs.If.{if◌then◌else◌}
+use Rattle.std.specs.Prelude.{if◌then◌else◌}
 use Rattle.characters.proofs.Tests.{by_if, and_left, clash}
 use Rattle.fields.proofs.Back.{Every}
 use Rattle.rows.specs.SubRenderer.{max, starts_border}

@@ -1,7 +1,6 @@
 -- What a row is asked before anything is written.
 -- Assumes nothing: these are definitions.
-use Rattle.std.specs.Prelude.{◌≡◌, Bool, true, false, ◌||◌, List, ◌++◌, map, ℕ, ◌+◌, ◌-◌, ◌/◌, ◌≤◌, eqb, length}
-use Rattle.characters.specs.If.{if◌then◌else◌}
+use Rattle.std.specs.Prelude.{◌≡◌, Bool, true, false, ◌||◌, List, ◌++◌, map, ℕ, ◌+◌, ◌-◌, ◌/◌, ◌≤◌, eqb, length, if◌then◌else◌}
 use Rattle.fields.specs.Field.{all}
 use Rattle.fields.proofs.Back.{Every}
 use Rattle.rows.specs.SubRenderer.{max, starts_border}

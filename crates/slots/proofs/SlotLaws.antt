@@ -8,7 +8,7 @@ use native.Mathlib.Omega.{arith}
 use lib.Dec.{leb, ltb}
 use lib.ListN.{length}
 use borrow.Author.Tests.{lt-ltb, le-ltb, leb-true, leb-false, ltb-true}
-use Rattle.characters.specs.If.{if◌then◌else◌}
+use Rattle.std.specs.Prelude.{if◌then◌else◌}
 use Rattle.characters.proofs.Tests.{by_if, and_left, and_right}
 use Rattle.fields.specs.Field.{all}
 use Rattle.rows.specs.SubRenderer.{max, reach}

@@ -1,7 +1,6 @@
 -- The seats of a row in the bytes, and what is ahead of a walk over them.
 -- Assumes nothing: these are definitions.
-use Rattle.std.specs.Prelude.{◌≡◌, Bool, true, false, List, [], ◌∷◌, ◌++◌, ℕ, ◌+◌, ◌-◌, ◌*◌, ◌≤◌, ◌<◌, length, ltb}
-use Rattle.characters.specs.If.{if◌then◌else◌}
+use Rattle.std.specs.Prelude.{◌≡◌, Bool, true, false, List, [], ◌∷◌, ◌++◌, ℕ, ◌+◌, ◌-◌, ◌*◌, ◌≤◌, ◌<◌, length, ltb, if◌then◌else◌}
 use Rattle.fields.specs.Field.{all}
 use Rattle.rows.specs.SubRenderer.{max}
 use Rattle.rows.specs.Columns.{total_width, Slot, cell_slots, hung_slot, slots_from, total_from, slot_widths, row_slots}
