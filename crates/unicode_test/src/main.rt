@@ -24,7 +24,7 @@ fn main(rt: HostRuntime) -> io::Result<()> {
     let disputed = strings::compare(&out)?;
     print::line(
         &out,
-        "differences: ",
+        b"differences: ",
         differing.wrapping_add(unread).wrapping_add(disputed),
     )
 }

@@ -91,7 +91,7 @@ fn white_agrees(code: u32, white: bool) -> bool {
 // White space that is off the list is written and is no difference: document 01 leaves it out.
 fn off_list(out: &Stdout, code: u32, white: bool) -> io::Result<bool> {
     if white {
-        print::code_line(out, "white space left out: U+", code)?;
+        print::code_line(out, b"white space left out: U+", code)?;
     }
     Ok(white)
 }
@@ -129,13 +129,13 @@ fn none() -> Seen {
 }
 
 fn report(out: &Stdout, s: Seen) -> io::Result<()> {
-    print::line(out, "on the list: ", s.listed)?;
-    print::line(out, "controls: ", s.controls)?;
-    print::line(out, "with 0 columns: ", s.zero)?;
-    print::line(out, "with 1 column: ", s.one)?;
-    print::line(out, "with 2 columns: ", s.two)?;
-    print::line(out, "white space on the list: ", s.white)?;
-    print::line(out, "white space off the list: ", s.white_off)
+    print::line(out, b"on the list: ", s.listed)?;
+    print::line(out, b"controls: ", s.controls)?;
+    print::line(out, b"with 0 columns: ", s.zero)?;
+    print::line(out, b"with 1 column: ", s.one)?;
+    print::line(out, b"with 2 columns: ", s.two)?;
+    print::line(out, b"white space on the list: ", s.white)?;
+    print::line(out, b"white space off the list: ", s.white_off)
 }
 
 // Walks all code points, writes the counts and answers the number of differences.
@@ -148,8 +148,8 @@ pub fn compare(out: &Stdout, text: &[u8]) -> io::Result<u32> {
         seen = count(out, seen, code, reading.class)?;
         code += 1;
     }
-    print::line(out, "runs of the data: ", reading.runs)?;
-    print::line(out, "code points: ", code)?;
+    print::line(out, b"runs of the data: ", reading.runs)?;
+    print::line(out, b"code points: ", code)?;
     report(out, seen)?;
     Ok(seen.differences)
 }
