@@ -1,5 +1,6 @@
 -- `characters::whitespace::always_takes_space` meets its contract: each stretch of numbers that the match leaves lies in one row or between two.
 -- Assumes nothing.
+use native.Mathlib.Omega.{arith}
 use mathlib.Core.Path.{sym}
 use mathlib.Core.Logic.{⊎_elim}
 use mathlib.Core.Bool.{true}
@@ -16,17 +17,17 @@ keys = 0x20 ∷ 0x85 ∷ 0x3000 ∷ []
 pub returns-in_default : goal.returns-in_default
 unfolding always_takes_space
 returns-in_default c =
-    span true droppable zero-le c.in_default.if-c-lt9-own.true tt
+    span true droppable {hi = 9} {c = c.args.c} zero-le (omega arith) tt
 
 pub returns-in_default-2 : goal.returns-in_default-2
 unfolding always_takes_space
 returns-in_default-2 c =
-    but true droppable keys c.in_default.in_default-own.rest.1 c.in_default.if-c-lt14-own.false c.in_default.if-c-lt8192-own.true tt
+    but true droppable {lo = 14} {hi = 8192} {c = c.args.c} keys c.in_default.in_default-own.rest.1 (omega arith) (omega arith) tt
 
 pub returns-in_default-3 : goal.returns-in_default-3
 unfolding always_takes_space
 returns-in_default-3 c =
-    but true droppable keys c.in_default.in_default-own.rest.1 c.in_default.if-c-lt8203-own.false c.ranges.c.fits tt
+    but true droppable {lo = 8203} {c = c.args.c} keys c.in_default.in_default-own.rest.1 (omega arith) c.ranges.c.fits tt
 
 pub returns-in-9-to-13 : goal.returns-in-9-to-13
 unfolding always_takes_space
@@ -36,9 +37,9 @@ returns-in-9-to-13 c =
 pub returns-in-9-to-13-2 : goal.returns-in-9-to-13-2
 unfolding always_takes_space
 returns-in-9-to-13-2 c =
-    span true droppable c.in-9-to-13.if-c-lt9-own.false c.in-9-to-13.if-c-lt14-own.true tt
+    span true droppable {lo = 9} {hi = 14} {c = c.args.c} (omega arith) (omega arith) tt
 
 pub returns-in-9-to-13-3 : goal.returns-in-9-to-13-3
 unfolding always_takes_space
 returns-in-9-to-13-3 c =
-    span true droppable c.in-9-to-13.if-c-lt8192-own.false c.in-9-to-13.if-c-lt8203-own.true tt
+    span true droppable {lo = 8192} {hi = 8203} {c = c.args.c} (omega arith) (omega arith) tt

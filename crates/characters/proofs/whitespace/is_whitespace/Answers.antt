@@ -1,5 +1,6 @@
 -- `characters::whitespace::is_whitespace` meets its contract: each stretch of numbers that the match leaves lies in one row or between two.
 -- Assumes nothing.
+use native.Mathlib.Omega.{arith}
 use mathlib.Core.Path.{sym}
 use mathlib.Core.Logic.{⊎_elim}
 use mathlib.Core.Bool.{false}
@@ -16,17 +17,17 @@ keys = 0x20 ∷ 0x85 ∷ 0xA0 ∷ 0x3000 ∷ []
 pub returns-in_default : goal.returns-in_default
 unfolding is_whitespace
 returns-in_default c =
-    span false whites zero-le c.in_default.if-c-lt9-own.true tt
+    span false whites {hi = 9} {c = c.args.c} zero-le (omega arith) tt
 
 pub returns-in_default-2 : goal.returns-in_default-2
 unfolding is_whitespace
 returns-in_default-2 c =
-    but false whites keys c.in_default.in_default-own.rest.1 c.in_default.if-c-lt14-own.false c.in_default.if-c-lt8192-own.true tt
+    but false whites {lo = 14} {hi = 8192} {c = c.args.c} keys c.in_default.in_default-own.rest.1 (omega arith) (omega arith) tt
 
 pub returns-in_default-3 : goal.returns-in_default-3
 unfolding is_whitespace
 returns-in_default-3 c =
-    but false whites keys c.in_default.in_default-own.rest.1 c.in_default.if-c-lt8203-own.false c.ranges.c.fits tt
+    but false whites {lo = 8203} {c = c.args.c} keys c.in_default.in_default-own.rest.1 (omega arith) c.ranges.c.fits tt
 
 pub returns-in-9-to-13 : goal.returns-in-9-to-13
 unfolding is_whitespace
@@ -36,9 +37,9 @@ returns-in-9-to-13 c =
 pub returns-in-9-to-13-2 : goal.returns-in-9-to-13-2
 unfolding is_whitespace
 returns-in-9-to-13-2 c =
-    span false whites c.in-9-to-13.if-c-lt9-own.false c.in-9-to-13.if-c-lt14-own.true tt
+    span false whites {lo = 9} {hi = 14} {c = c.args.c} (omega arith) (omega arith) tt
 
 pub returns-in-9-to-13-3 : goal.returns-in-9-to-13-3
 unfolding is_whitespace
 returns-in-9-to-13-3 c =
-    span false whites c.in-9-to-13.if-c-lt8192-own.false c.in-9-to-13.if-c-lt8203-own.true tt
+    span false whites {lo = 8192} {hi = 8203} {c = c.args.c} (omega arith) (omega arith) tt
