@@ -7,8 +7,6 @@ use Rattle.fields.specs.First.{refusal_of, unless}
 use Rattle.fields.specs.Job.{read_field, is_wrong, readable}
 use Rattle.fields.specs.Sheet.{read_piece, read_prefix, readable_piece}
 use Rattle.fields.specs.Spans.{read_name}
-use Rattle.fields.specs.declared.walk.Kind.{Kind}
-use Rattle.fields.specs.declared.walk.Kind.TheVariants.{Job, Pieces, Prefixes, Names}
 
 -- 1 or 3 of a T or an F field of a job
 unfoldable pub field_refusal : Raw → ℕ
@@ -25,10 +23,3 @@ prefix_refusal r = refusal_of (λ p. unless (readable_text false p)) (read_prefi
 -- 1 or 3 of a name that waits
 unfoldable pub name_refusal : Raw → ℕ
 name_refusal r = refusal_of (λ n. unless (readable_text false n)) (read_name r)
-
--- of a field, by the kind of its list
-abbrev pub refusal_in : Kind → Raw → ℕ
-refusal_in Job = field_refusal
-refusal_in Pieces = piece_refusal
-refusal_in Prefixes = prefix_refusal
-refusal_in Names = name_refusal

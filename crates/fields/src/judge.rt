@@ -1,90 +1,107 @@
 // A field judged by itself: its letter, its lengths, its segments and its text (refusals 1 and 3).
 ghost use Rattle.std.specs.Prelude.{◌≡◌};
 ghost use Rattle.fields.specs.Field.{whole, all};
+ghost use Rattle.fields.specs.List.{whole_of};
+ghost use Rattle.fields.specs.Refusal.{number_of};
+ghost use Rattle.fields.specs.Refusals.{width_refusal};
 ghost use Rattle.fields.specs.Sheet.{is_segment};
 ghost use Rattle.fields.specs.SpanRefusals.{line_refusal};
 ghost use Rattle.fields.specs.Walk.{field_refusal, piece_refusal, prefix_refusal, name_refusal};
 
-use crate::text::text_refusal;
+use crate::raw::Field;
+use crate::refusal::Refusal;
+use crate::text::check_text;
 
-// A T field has a mode, at most 2, two annotations and text; an F field is a name.
-pub fn job_field_refusal(letter: u8, content: &[u8]) -> u8
-    ensures { result ≡ field_refusal (whole letter content.now) }
+// The content of a T field: a mode, at most 2, two annotations and text.
+fn check_run(content: &[u8]) -> Result<(), Refusal>
+    ensures { number_of result ≡ field_refusal (whole 0x54 content.now) }
 {
-    if letter == 0x46 {
-        return text_refusal(content, false);
+    match content {
+        [mode, _, _, text @ ..] if *mode <= 2 => check_text(text, true),
+        _ => Err(Refusal::CrookedRecord),
     }
-    if letter != 0x54 {
-        return 1;
-    }
-    if content.len() < 3 {
-        return 1;
-    }
-    if 2 < content[0] {
-        return 1;
-    }
-    text_refusal(&content[3..], true)
 }
 
-// An S field has an annotation and at least one byte of text; an F field is a name.
-pub fn piece_refusal(letter: u8, content: &[u8]) -> u8
-    ensures { result ≡ piece_refusal (whole letter content.now) }
+// A field of a job: a T field, or an F field, which is a name.
+pub fn check_job_field(field: Field<'_>) -> Result<(), Refusal>
+    ensures { number_of result ≡ field_refusal (whole_of field.entry) }
 {
-    if letter == 0x46 {
-        return text_refusal(content, false);
+    match field.letter {
+        b'F' => check_text(field.content, false),
+        b'T' => check_run(field.content),
+        _ => Err(Refusal::CrookedRecord),
     }
-    if letter != 0x53 {
-        return 1;
+}
+
+// The content of an S field: an annotation and at least one byte of text.
+fn check_string(content: &[u8]) -> Result<(), Refusal>
+    ensures { number_of result ≡ piece_refusal (whole 0x53 content.now) }
+{
+    match content {
+        [_, text @ ..] if !text.is_empty() => check_text(text, false),
+        _ => Err(Refusal::CrookedRecord),
     }
-    if content.len() < 2 {
-        return 1;
+}
+
+// A piece of a line: an S field, or an F field, which is a name.
+pub fn check_piece(field: Field<'_>) -> Result<(), Refusal>
+    ensures { number_of result ≡ piece_refusal (whole_of field.entry) }
+{
+    match field.letter {
+        b'F' => check_text(field.content, false),
+        b'S' => check_string(field.content),
+        _ => Err(Refusal::CrookedRecord),
     }
-    text_refusal(&content[1..], false)
 }
 
 // Whether each byte is a segment, 0 to 11.
-pub fn all_segments(s: &[u8]) -> bool
-    ensures { result ≡ all is_segment s.now }
+pub fn all_segments(segments: &[u8]) -> bool
+    ensures { result ≡ all is_segment segments.now }
 {
-    let mut i: usize = 0;
-    while i < s.len() {
-        if 11 < s[i] {
+    for segment in segments {
+        if 11 < *segment {
             return false;
         }
-        i += 1;
     }
     true
 }
 
 // The content of a B field: an annotation and segments.
-pub fn border_refusal(content: &[u8]) -> u8
-    ensures { result ≡ line_refusal (whole 0x42 content.now) }
+pub fn check_border(content: &[u8]) -> Result<(), Refusal>
+    ensures { number_of result ≡ line_refusal (whole 0x42 content.now) }
 {
-    if content.len() < 1 {
-        return 1;
+    match content {
+        [_, segments @ ..] if all_segments(segments) => Ok(()),
+        _ => Err(Refusal::CrookedRecord),
     }
-    if all_segments(&content[1..]) {
-        return 0;
-    }
-    1
 }
 
 // A P field is text, perhaps empty.
-pub fn prefix_refusal(letter: u8, content: &[u8]) -> u8
-    ensures { result ≡ prefix_refusal (whole letter content.now) }
+pub fn check_prefix(field: Field<'_>) -> Result<(), Refusal>
+    ensures { number_of result ≡ prefix_refusal (whole_of field.entry) }
 {
-    if letter != 0x50 {
-        return 1;
+    if field.letter != b'P' {
+        return Err(Refusal::CrookedRecord);
     }
-    text_refusal(content, false)
+    check_text(field.content, false)
+}
+
+// A width, of a block or of a sheet, is not 0 (refusal 2).
+pub fn check_width(width: u8) -> Result<(), Refusal>
+    ensures { number_of result ≡ width_refusal width }
+{
+    if width == 0 {
+        return Err(Refusal::NoWidth);
+    }
+    Ok(())
 }
 
 // An F field after a sheet's last line is a name, perhaps empty.
-pub fn name_refusal(letter: u8, content: &[u8]) -> u8
-    ensures { result ≡ name_refusal (whole letter content.now) }
+pub fn check_name(field: Field<'_>) -> Result<(), Refusal>
+    ensures { number_of result ≡ name_refusal (whole_of field.entry) }
 {
-    if letter != 0x46 {
-        return 1;
+    if field.letter != b'F' {
+        return Err(Refusal::CrookedRecord);
     }
-    text_refusal(content, false)
+    check_text(field.content, false)
 }

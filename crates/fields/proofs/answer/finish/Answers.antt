@@ -5,7 +5,7 @@ use Rattle.fields.proofs.answer.finish.Goals as goal
 
 pub returns-then-store-place : goal.returns-then-store-place
 returns-then-store-place c =
-    finishes_short _ _ _ _ c.if-store-place.true c.clear.ensures
+    finishes_short _ _ _ _ _ c.if-store-place.true c.refuse.ensures
 
 pub returns : goal.returns
 returns c =

@@ -1,50 +1,29 @@
-use mathlib.Core.Path.{sym, ◌∙◌}
-use Prim.Native.Nat.{◌+◌}
-use native.Mathlib.Omega.{arith}
-use Rattle.fields.proofs.Fields.{FieldIs, field_is, field_broken, field_end}
-use Rattle.fields.proofs.Jobs.{Sum, sum_start, sum_on, sum_broken, sum_end}
+-- Assumes nothing.
+use Rattle.std.proofs.Common.{arith}
+use Rattle.fields.proofs.Jobs.{sum_on, sum_broken, sum_end, body_units_few}
 use Rattle.fields.proofs.job.body_units.Goals as goal
 
-pub loop-letter-init : goal.loop-letter-init
-loop-letter-init c =
-    sum_start _
-
-pub slice_bounds-field_units-count : goal.slice_bounds-field_units-count
-slice_bounds-field_units-count c =
-    let found : FieldIs c.args.s.now c.loop-letter.at c.in-At.letter c.in-At.start c.in-At.next = field_is _ _ _ _ _ c.loop-letter.invariant.inside (sym c.field_at-f.ensures.value ∙ c.in-At.is) in
-    let r = found in omega (arith, r.order)
-
-pub slice_bounds-field_units-start : goal.slice_bounds-field_units-start
-slice_bounds-field_units-start c =
-    let found : FieldIs c.args.s.now c.loop-letter.at c.in-At.letter c.in-At.start c.in-At.next = field_is _ _ _ _ _ c.loop-letter.invariant.inside (sym c.field_at-f.ensures.value ∙ c.in-At.is) in
-    let r = found in omega (arith, r.order, r.inside)
-
-pub slice_bounds-field_units-end : goal.slice_bounds-field_units-end
-slice_bounds-field_units-end c =
-    let found : FieldIs c.args.s.now c.loop-letter.at c.in-At.letter c.in-At.start c.in-At.next = field_is _ _ _ _ _ c.loop-letter.invariant.inside (sym c.field_at-f.ensures.value ∙ c.in-At.is) in
-    let r = found in omega (arith, r.order, r.inside)
+pub loop-field-init : goal.loop-field-init
+loop-field-init c =
+    rw (c.into_iter-field-iterator.ensures.into_iter_gives, c.new-field-items.ensures) (omega arith)
 
 pub overflow_add-units : goal.overflow_add-units
 overflow_add-units c =
-    let found : FieldIs c.args.s.now c.loop-letter.at c.in-At.letter c.in-At.start c.in-At.next = field_is _ _ _ _ _ c.loop-letter.invariant.inside (sym c.field_at-f.ensures.value ∙ c.in-At.is) in
-    let summed : Sum c.args.s.now c.in-At.next (c.loop-letter.units + c.field_units-units.result) = sum_on _ _ _ _ _ _ _ c.loop-letter.invariant (found) c.field_units-units.ensures.value c.field_units-units.ensures.upper_bound in
-    let w = summed in omega (arith, w.small, w.inside)
+    let next = rw c.in-Ok.is at c.in-Some.ensures.steps in
+    let few = body_units_few c.args.bytes.now in
+    let on = sum_on _ _ _ _ _ _ c.loop-field.invariant next c.field_units-units.ensures.value in
+    omega arith
 
-pub loop-letter-smaller : goal.loop-letter-smaller
-loop-letter-smaller c =
-    let found : FieldIs c.args.s.now c.loop-letter.at c.in-At.letter c.in-At.start c.in-At.next = field_is _ _ _ _ _ c.loop-letter.invariant.inside (sym c.field_at-f.ensures.value ∙ c.in-At.is) in
-    let r = found in omega (arith, r.begins, r.order, r.inside)
+pub loop-field-preserved-in-Ok : goal.loop-field-preserved-in-Ok
+loop-field-preserved-in-Ok c =
+    let next = rw c.in-Ok.is at c.in-Some.ensures.steps in
+    sum_on _ _ _ _ _ _ c.loop-field.invariant next c.field_units-units.ensures.value
 
-pub loop-letter-preserved : goal.loop-letter-preserved
-loop-letter-preserved c =
-    let found : FieldIs c.args.s.now c.loop-letter.at c.in-At.letter c.in-At.start c.in-At.next = field_is _ _ _ _ _ c.loop-letter.invariant.inside (sym c.field_at-f.ensures.value ∙ c.in-At.is) in
-    let summed : Sum c.args.s.now c.in-At.next (c.loop-letter.units + c.field_units-units.result) = sum_on _ _ _ _ _ _ _ c.loop-letter.invariant (found) c.field_units-units.ensures.value c.field_units-units.ensures.upper_bound in
-    summed
+pub loop-field-preserved : goal.loop-field-preserved
+loop-field-preserved c =
+    let next = rw c.in_default.is at c.in-Some.ensures.steps in
+    sum_broken _ _ _ _ c.loop-field.invariant next
 
-pub returns-in-Broken : goal.returns-in-Broken
-returns-in-Broken c =
-    sum_broken _ _ _ c.loop-letter.invariant (field_broken _ _ (sym c.field_at-f.ensures.value ∙ c.in-Broken.is))
-
-pub returns-in-End : goal.returns-in-End
-returns-in-End c =
-    sum_end _ _ _ c.loop-letter.invariant (field_end _ _ (sym c.field_at-f.ensures.value ∙ c.in-End.is))
+pub returns : goal.returns
+returns c =
+    sum_end _ _ _ c.loop-field.invariant c.in-None.ensures.steps.0

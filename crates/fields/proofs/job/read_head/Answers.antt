@@ -1,26 +1,25 @@
--- `fields::job::read_head` meets its contract: each answer is the definition's at the job's first six bytes.
+-- `fields::job::read_head` meets its contract: each answer is the definition's at the job's first field.
 -- Assumes nothing.
-use mathlib.Core.Path.{sym, ◌∙◌}
-use native.Mathlib.Omega.{arith}
-use Rattle.fields.proofs.Jobs.{head_none, head_three, high_none, good_setup}
+use Rattle.std.proofs.Common.{sym, ◌∙◌, ap}
+use Rattle.fields.specs.Field.{raws}
+use Rattle.fields.proofs.Jobs.{head_nothing, head_first, head_crooked, head_at, head_other, head_setup}
 use Rattle.fields.proofs.job.read_head.Goals as goal
 
-pub returns-then-job-lt6 : goal.returns-then-job-lt6
-returns-then-job-lt6 c =
-    head_none _ (λ h l n. omega (arith, h, c.if-job-lt6.true))
+pub returns-in_err-next : goal.returns-in_err-next
+returns-in_err-next c =
+    rw c.from_residual.ensures (head_nothing _ (rw c.new.ensures at c.in_err-next.ensures.steps.0))
 
-pub returns-then-job-ne87 : goal.returns-then-job-ne87
-returns-then-job-ne87 c =
-    head_none _ (λ h l n. c.if-job-ne87.true l)
+pub returns-in_err-first : goal.returns-in_err-first
+returns-in_err-first c =
+    rw c.from_residual-in_err-first.ensures
+    (head_crooked _ c.in_err-first.ensures.value ∙ sym (head_first _ _ _ (rw c.new.ensures at c.in_ok-next.ensures.steps)))
 
-pub returns-then-wide-ne3 : goal.returns-then-wide-ne3
-returns-then-wide-ne3 c =
-    head_none _ (λ h l n. omega (arith, n, c.if-wide-ne3.true, c.wide-2.ensures.value, c.wide.ensures.value))
-
-pub returns-then-flags-ne0 : goal.returns-then-flags-ne0
-returns-then-flags-ne0 c =
-    high_none _ _ _ (c.type_inv.job 4).fits c.if-flags-ne0.true ∙ sym (head_three _ c.if-job-lt6.false c.if-job-ne87.false (omega (arith, c.if-wide-ne3.false, c.wide-2.ensures.value, c.wide.ensures.value)))
+pub returns-then-first-ne87 : goal.returns-then-first-ne87
+returns-then-first-ne87 c =
+    head_other _ _ c.if-first-ne87.true
+    ∙ head_at c.args.job.now _ _ _ _ c.in_ok-next.ensures.steps (ap raws c.new.ensures) c.in_ok-first.ensures.value
 
 pub returns : goal.returns
 returns c =
-    good_setup _ _ _ (c.type_inv.job 4).fits c.if-flags-ne0.false ∙ sym (head_three _ c.if-job-lt6.false c.if-job-ne87.false (omega (arith, c.if-wide-ne3.false, c.wide-2.ensures.value, c.wide.ensures.value)))
+    c.read_setup.ensures ∙ head_setup _ _ c.if-first-ne87.false
+    ∙ head_at c.args.job.now _ _ _ _ c.in_ok-next.ensures.steps (ap raws c.new.ensures) c.in_ok-first.ensures.value

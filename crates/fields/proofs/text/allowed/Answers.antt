@@ -6,12 +6,12 @@ use Rattle.fields.proofs.text.allowed.Goals as goal
 
 pub returns-in-Control : goal.returns-in-Control
 returns-in-Control c =
-    sym (control_allowed _ _ (sym c.columns_of-k.ensures ∙ c.in-Control.is))
+    sym (control_allowed _ _ (sym c.columns_of.ensures ∙ c.in-Control.is))
 
 pub returns-in-Cols : goal.returns-in-Cols
 returns-in-Cols c =
-    sym (cols_allowed _ _ _ (sym c.columns_of-k.ensures ∙ c.in-Cols.is))
+    sym (cols_allowed _ _ _ (sym c.columns_of.ensures ∙ c.in-Cols.is))
 
 pub returns-in-OffList : goal.returns-in-OffList
 returns-in-OffList c =
-    sym (off_list _ _ (sym c.columns_of-k.ensures ∙ c.in-OffList.is))
+    sym (off_list _ _ (sym c.columns_of.ensures ∙ c.in-OffList.is))
