@@ -12,12 +12,15 @@ use crate::raw::Field;
 use crate::refusal::Refusal;
 use crate::text::check_text;
 
+// The last mode of a text: Normal, Pre and PreWrap are 0, 1 and 2.
+pub const LAST_MODE: u8 = 2;
+
 // The content of a T field: a mode, at most 2, two annotations and text.
 fn check_run(content: &[u8]) -> Result<(), Refusal>
     ensures { number_of result ≡ field_refusal (whole 0x54 content.now) }
 {
     match content {
-        [mode, _, _, text @ ..] if *mode <= 2 => check_text(text, true),
+        [mode, _, _, text @ ..] if *mode <= LAST_MODE => check_text(text, true),
         _ => Err(Refusal::CrookedRecord),
     }
 }

@@ -6,7 +6,7 @@ use Rattle.fields.proofs.job.run_units.Goals as goal
 
 pub returns-in-len3-up-clause-value : goal.returns-in-len3-up-clause-value
 returns-in-len3-up-clause-value c =
-    run_text _ c.in-len3-up.len_at_least c.if-mode-le2.true
+    run_text _ c.in-len3-up.len_at_least c.if-mode-le-LAST_MODE.true
 
 pub returns-in_default-clause-value : goal.returns-in_default-clause-value
 returns-in_default-clause-value c =
@@ -14,4 +14,4 @@ returns-in_default-clause-value c =
 
 pub returns-in_default-2-clause-value : goal.returns-in_default-2-clause-value
 returns-in_default-2-clause-value c =
-    mode_units _ _ refl c.if-mode-le2.false
+    mode_units _ _ refl c.if-mode-le-LAST_MODE.false

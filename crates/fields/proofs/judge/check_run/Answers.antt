@@ -6,7 +6,7 @@ use Rattle.fields.proofs.judge.check_run.Goals as goal
 
 pub returns-in-len3-up : goal.returns-in-len3-up
 returns-in-len3-up c =
-    c.check_text.ensures ∙ text_refusal _ _ refl c.in-len3-up.len_at_least c.if-mode-le2.true
+    c.check_text.ensures ∙ text_refusal _ _ refl c.in-len3-up.len_at_least c.if-mode-le-LAST_MODE.true
 
 pub returns-in_default : goal.returns-in_default
 returns-in_default c =
@@ -14,4 +14,4 @@ returns-in_default c =
 
 pub returns-in_default-2 : goal.returns-in_default-2
 returns-in_default-2 c =
-    mode_refusal _ _ refl c.if-mode-le2.false
+    mode_refusal _ _ refl c.if-mode-le-LAST_MODE.false

@@ -1,13 +1,16 @@
-use mathlib.Core.Path.{refl, ◌∙◌}
-use native.Mathlib.Omega.{arith}
-use Rattle.fields.proofs.Sets.{sets_next, sets_room}
-use borrow.Author.Rules.{rules}
+-- `fields::store::put_bytes` meets its contract: what has room is copied at once.
+-- Assumes nothing.
+use Rattle.std.proofs.Common.{◌≡◌, ◌+◌, ◌-◌, ◌≤◌, ◌<◌, length, min, take, arith}
+use Rattle.fields.proofs.Sets.{sets_none, sets_mid}
 use Rattle.fields.proofs.store.put_bytes.Goals as goal
 
-pub loop-i-preserved : goal.loop-i-preserved
-loop-i-preserved c =
-    (search rules, search rules, rw c.loop-i.invariant.2 (sets_next c.args.out.now c.args.at c.args.bytes.now c.loop-i.i (omega arith)))
+pub returns-then-n-eq0 : goal.returns-then-n-eq0
+returns-then-n-eq0 c =
+    let none : min (length c.args.bytes.now) (length c.args.out.now - c.args.at) ≤ 0 = omega (arith, c.min-n.ensures, c.saturating_sub.ensures, c.if-n-eq0.true) in
+    record { place = omega arith; store = sets_none _ _ _ none }
 
 pub returns : goal.returns
 returns c =
-    record { place = refl; store = c.loop-i.invariant.2 ∙ sets_room c.args.out.now c.args.at c.args.bytes.now c.loop-i.i (omega arith) }
+    let room : c.min-n.result ≡ min (length c.args.bytes.now) (length c.args.out.now - c.args.at) = omega (arith, c.min-n.ensures, c.saturating_sub.ensures) in
+    let some : 0 < c.min-n.result = omega (arith, c.if-n-eq0.false) in
+    record { place = omega arith; store = sets_mid _ _ _ _ _ room some c.copy_from_slice.ensures.after }

@@ -1,17 +1,20 @@
-use mathlib.Core.Path.{◌∙◌}
-use native.Mathlib.Omega.{arith}
-use lib.ListN.{replicate, length-replicate}
-use Rattle.fields.proofs.Sets.{sets_repeat, sets_room}
-use borrow.Author.Rules.{rules}
+-- `fields::store::put_repeat` meets its contract: what has room is filled at once.
+-- Assumes nothing.
+use Rattle.std.proofs.Common.{◌≡◌, ℕ, ◌+◌, ◌-◌, ◌≤◌, ◌<◌, length, length-drop, min, replicate, take, drop, arith, sym, ap, ◌∙◌}
+use Rattle.fields.proofs.Sets.{sets_none, sets_mid, length_part}
+use Rattle.std.proofs.lemmas.List.{length-replicate, take-replicate}
 use Rattle.fields.proofs.store.put_repeat.Goals as goal
 
-pub loop-i-preserved : goal.loop-i-preserved
-loop-i-preserved c =
-    (search rules, search rules, rw c.loop-i.invariant.2 (sets_repeat c.args.out.now c.args.at c.args.n c.args.b c.loop-i.i (omega arith)))
+pub returns-then-fits-eq0 : goal.returns-then-fits-eq0
+returns-then-fits-eq0 c =
+    let none : min (length (replicate c.args.n c.args.b)) (length c.args.out.now - c.args.at) ≤ 0 = omega (arith, length-replicate c.args.n c.args.b, c.min-fits.ensures, c.saturating_sub.ensures, c.if-fits-eq0.true) in
+    record { place = omega (arith, length-replicate c.args.n c.args.b); store = sets_none _ _ _ none }
 
 pub returns : goal.returns
 returns c =
-    record {
-      place = rw length-replicate;
-      store = c.loop-i.invariant.2 ∙ sets_room c.args.out.now c.args.at (replicate c.args.n c.args.b) c.loop-i.i (rw length-replicate (omega arith));
-    }
+    let room : c.min-fits.result ≡ min (length (replicate c.args.n c.args.b)) (length c.args.out.now - c.args.at) =
+    omega (arith, length-replicate c.args.n c.args.b, c.min-fits.ensures, c.saturating_sub.ensures) in
+    let some : 0 < c.min-fits.result = omega (arith, c.if-fits-eq0.false) in
+    let filled = c.fill.ensures.after (λ y e. e) ∙ ap (λ (k : ℕ). replicate k c.args.b) (length_part _ _ _ (omega (arith, c.min-fits.ensures, c.saturating_sub.ensures)))
+    ∙ sym (take-replicate c.min-fits.result c.args.n c.args.b (omega (arith, c.min-fits.ensures))) in
+    record { place = omega (arith, length-replicate c.args.n c.args.b); store = sets_mid _ _ _ _ _ room some filled }
