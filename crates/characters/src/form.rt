@@ -3,14 +3,7 @@
 ghost use Rattle.std.specs.Prelude.{◌≡◌, ◌<◌};
 ghost use Rattle.characters.specs.Forms.{in_range, second_from, second_to, more, two, three, four};
 
-use crate::utf8::Decoded;
-
-// A byte as a code point.
-pub fn widened(x: u8) -> u32
-    ensures { result ≡ x }
-{
-    x as u32
-}
+use crate::utf8::Char;
 
 // A byte in a range of them.
 fn in_range(lo: u8, hi: u8, b: u8) -> bool
@@ -50,60 +43,60 @@ fn add_six(acc: u32, b: u8) -> u32
     requires { acc < 65536 }
     ensures { result ≡ more acc b }
 {
-    acc << 6 | (widened(b) & 63)
+    acc << 6 | (u32::from(b) & 63)
 }
 
 // The form of two bytes.
-pub fn two_bytes(a: u8, b: u8) -> Decoded
+pub fn two_bytes(a: u8, b: u8) -> Option<Char>
     ensures { result ≡ two a b }
 {
     if a < 0xC2 {
-        return Decoded::Bad;
+        return None;
     }
     if in_range(0x80, 0xBF, b) {
-        Decoded::Char {
-            code: add_six(widened(a & 31), b),
+        Some(Char {
+            code: add_six(u32::from(a & 31), b),
             len: 2,
-        }
+        })
     } else {
-        Decoded::Bad
+        None
     }
 }
 
 // The form of three bytes.
-pub fn three_bytes(a: u8, b: u8, c: u8) -> Decoded
+pub fn three_bytes(a: u8, b: u8, c: u8) -> Option<Char>
     ensures { result ≡ three a b c }
 {
     if !in_range(second_from(a), second_to(a), b) {
-        return Decoded::Bad;
+        return None;
     }
     if !in_range(0x80, 0xBF, c) {
-        return Decoded::Bad;
+        return None;
     }
-    Decoded::Char {
-        code: add_six(add_six(widened(a & 15), b), c),
+    Some(Char {
+        code: add_six(add_six(u32::from(a & 15), b), c),
         len: 3,
-    }
+    })
 }
 
 // The form of four bytes.
-pub fn four_bytes(a: u8, b: u8, c: u8, d: u8) -> Decoded
+pub fn four_bytes(a: u8, b: u8, c: u8, d: u8) -> Option<Char>
     ensures { result ≡ four a b c d }
 {
     if 0xF4 < a {
-        return Decoded::Bad;
+        return None;
     }
     if !in_range(second_from(a), second_to(a), b) {
-        return Decoded::Bad;
+        return None;
     }
     if !in_range(0x80, 0xBF, c) {
-        return Decoded::Bad;
+        return None;
     }
     if !in_range(0x80, 0xBF, d) {
-        return Decoded::Bad;
+        return None;
     }
-    Decoded::Char {
-        code: add_six(add_six(add_six(widened(a & 7), b), c), d),
+    Some(Char {
+        code: add_six(add_six(add_six(u32::from(a & 7), b), c), d),
         len: 4,
-    }
+    })
 }

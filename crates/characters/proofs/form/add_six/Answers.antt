@@ -5,4 +5,4 @@ use Rattle.characters.proofs.form.add_six.Goals as goal
 
 pub returns : goal.returns
 returns c =
-    rw c.widened.ensures (six c.args.acc c.args.b c.requires)
+    rw c.from.ensures (six c.args.acc c.args.b c.requires)

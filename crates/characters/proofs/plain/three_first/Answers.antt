@@ -1,27 +1,21 @@
 -- `characters::plain::three_first` meets its contract: three bytes whose first says so are decoded by their form.
 -- Assumes nothing.
-use mathlib.Core.Path.{refl, sym, ◌∙◌}
-use mathlib.Core.Logic.{inl, inr, ⊎_elim}
+use mathlib.Core.Path.{◌≡◌, sym, ◌∙◌}
 use native.Mathlib.Omega.{arith}
-use borrow.Author.Tests.{ltb-false}
-use lib.ListN.{get_or}
+use Prim.Native.Nat.{ℕ}
+use mathlib.Core.List.{List}
+use Rattle.std.specs.Prelude.{Option, Some, None, IfSome}
+use Rattle.characters.specs.Plain.{PlainOf, PlainFront}
+use Rattle.characters.specs.Utf8.{char, decode_of}
 use Rattle.characters.proofs.RoundTrip.{decode_three}
 use Rattle.characters.proofs.plain.three_first.Goals as goal
 
-pub returns-then-s-lt3 : goal.returns-then-s-lt3
-returns-then-s-lt3 c =
-    inl refl
+-- the columns of the character that a text starts with
+in_front : (o : Option ℕ) (s : List ℕ) (c : ℕ) → decode_of s ≡ char c 3 → IfSome o (PlainOf c) → IfSome o (PlainFront s)
+in_front (Some k) s c d p = (c, d, p)
+in_front None s c d p = tt
 
-pub returns-then-a-lt226 : goal.returns-then-a-lt226
-returns-then-a-lt226 c =
-    inl refl
-
-pub returns-in-Char : goal.returns-in-Char
-returns-in-Char c =
-    let h = ltb-false 0xE9 (get_or c.args.s.now 0 0) c.if-a-gt233.false-raw in
-    let d = sym c.three_bytes-d.ensures ∙ c.in-Char.is in
-    ⊎_elim inl (λ p. inr (_, decode_three _ (omega arith) (omega arith) (omega arith) _ _ d, p)) c.plain_columns.ensures
-
-pub returns-in-Bad : goal.returns-in-Bad
-returns-in-Bad c =
-    inl refl
+pub returns : goal.returns
+returns c =
+    let d = sym c.three_bytes.ensures ∙ c.in_ok-three_bytes.was in
+    in_front _ _ _ (decode_three _ (omega arith) (omega arith) (omega arith) _ _ d) c.plain_columns.ensures
