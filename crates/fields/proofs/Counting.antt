@@ -9,9 +9,9 @@ use native.Mathlib.Omega.{arith}
 use lib.ListN.{length, take, drop, length-drop, drop_of_length-le}
 use lib.Seq.{drop-drop}
 use Rattle.characters.specs.Columns.{cols, str_width}
-use Rattle.characters.specs.Utf8.{decode_of, chars}
+use Rattle.characters.specs.Utf8.{char, decode_of, chars}
+use Rattle.std.specs.Prelude as rust
 use Rattle.characters.specs.Plain.{PlainRun}
-use Rattle.characters.specs.declared.utf8.Decoded.TheVariants.{Char, Bad}
 use Rattle.characters.proofs.RoundTrip.{decode_size, chars_nil, chars_step, chars_bad}
 use Rattle.characters.proofs.Runs.{width_append, run_chars}
 use Rattle.fields.specs.Widths.{width_or, text_width}
@@ -52,7 +52,7 @@ count_start s = record { inside = omega arith; few = omega arith; left = after_z
 
 module _ (s : List ℕ) (at n : ℕ) (w : Counted s at n) where
   -- the character at the place
-  pub counted_size : (c k : ℕ) → decode_of (take (length s - at) (drop at s)) ≡ Char c k → (0 < k) × (at + k ≤ length s)
+  pub counted_size : (c k : ℕ) → decode_of (take (length s - at) (drop at s)) ≡ char c k → (0 < k) × (at + k ≤ length s)
   counted_size c k e =
       let (lo, hi, fits) = decode_size (drop at s) c k (rw (rest s at) at e) in
       (lo, omega (arith, w.inside, fits, length-drop at s))
@@ -74,7 +74,7 @@ module _ (s : List ℕ) (at n : ℕ) (w : Counted s at n) where
       }
 
   -- one character on
-  pub count_on : (c k m : ℕ) → decode_of (take (length s - at) (drop at s)) ≡ Char c k → m ≤ 2 → m ≡ cols c → Counted s (at + k) (n + m)
+  pub count_on : (c k m : ℕ) → decode_of (take (length s - at) (drop at s)) ≡ char c k → m ≤ 2 → m ≡ cols c → Counted s (at + k) (n + m)
   count_on c k m e few em =
       let (lo, hi) = counted_size c k e in
       record {
@@ -88,7 +88,7 @@ module _ (s : List ℕ) (at n : ℕ) (w : Counted s at n) where
       }
 
   -- bytes that are no text
-  pub count_bad : at < length s → decode_of (take (length s - at) (drop at s)) ≡ Bad → 0 ≡ text_width s
+  pub count_bad : at < length s → decode_of (take (length s - at) (drop at s)) ≡ rust.None → 0 ≡ text_width s
   count_bad h e = sym (w.left ∙ ap (after n) (chars_bad (drop at s) (omega (arith, length-drop at s)) (rw (rest s at) at e)))
 
   -- past the last character

@@ -4,7 +4,7 @@ ghost use Rattle.fields.specs.Widths.{text_width};
 
 use characters::columns::char_width;
 use characters::plain::{ascii_run, plain_run};
-use characters::utf8::{Decoded, decode};
+use characters::utf8::decode;
 
 // The columns of a text, run by run of plain characters and one character after each; 0 for bytes that are no text.
 fn walked_width(text: &[u8]) -> usize
@@ -12,8 +12,8 @@ fn walked_width(text: &[u8]) -> usize
     ensures upper_bound { result ≤ 2 * length text.now }
     ensures value { result ≡ text_width text.now }
 {
-    let mut at: usize = 0;
-    let mut cols: usize = 0;
+    let mut at = 0;
+    let mut cols = 0;
     loop {
         let run = plain_run(&text[at..], true);
         cols += run.cols;
@@ -21,16 +21,11 @@ fn walked_width(text: &[u8]) -> usize
         if at >= text.len() {
             return cols;
         }
-        let d = decode(&text[at..]);
-        match d {
-            Decoded::Char { code, len } => {
-                cols += char_width(code);
-                at += len;
-            }
-            Decoded::Bad => {
-                return 0;
-            }
-        }
+        let Some(first) = decode(&text[at..]) else {
+            return 0;
+        };
+        cols += char_width(first.code);
+        at += first.len;
     }
 }
 

@@ -1,6 +1,6 @@
 -- `fields::store::put_bytes` meets its contract: what has room is copied at once.
 -- Assumes nothing.
-use Rattle.std.proofs.Common.{◌≡◌, ◌+◌, ◌-◌, ◌≤◌, ◌<◌, length, min, take, arith}
+use Rattle.std.proofs.Common.{◌≡◌, ◌-◌, ◌≤◌, ◌<◌, length, min, arith}
 use Rattle.fields.proofs.Sets.{sets_none, sets_mid}
 use Rattle.fields.proofs.store.put_bytes.Goals as goal
 

@@ -1,6 +1,6 @@
 -- `fields::store::put_repeat` meets its contract: what has room is filled at once.
 -- Assumes nothing.
-use Rattle.std.proofs.Common.{◌≡◌, ℕ, ◌+◌, ◌-◌, ◌≤◌, ◌<◌, length, length-drop, min, replicate, take, drop, arith, sym, ap, ◌∙◌}
+use Rattle.std.proofs.Common.{◌≡◌, ℕ, ◌-◌, ◌≤◌, ◌<◌, length, min, replicate, arith, sym, ap, ◌∙◌}
 use Rattle.fields.proofs.Sets.{sets_none, sets_mid, length_part}
 use Rattle.std.proofs.lemmas.List.{length-replicate, take-replicate}
 use Rattle.fields.proofs.store.put_repeat.Goals as goal

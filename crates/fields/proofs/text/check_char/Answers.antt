@@ -13,15 +13,15 @@ returns-then-first-le10 c =
     let high : slice_index_or c.args.text.now 0 0 ≤ 10 = let h = c.if-first-le10.true in omega arith in
     rw c.if-controls.true (λ _. omega arith, some, text_kept _ some low high)
 
-pub returns-in-Char : goal.returns-in-Char
-returns-in-Char c =
-    let e = sym c.decode.ensures ∙ c.in-Char.is in
+pub returns-in-Some-decode : goal.returns-in-Some-decode
+returns-in-Some-decode c =
+    let e = sym c.decode.ensures ∙ c.in-Some-decode.is in
     let (lo, hi, inside) = decode_size _ _ _ e in
     (λ some. lo, inside, text_on _ _ _ _ e (sym c.allowed.ensures ∙ c.if-allowed.true))
 
 pub returns-in_default-decode : goal.returns-in_default-decode
 returns-in_default-decode c =
-    (refl, text_off _ _ _ _ (sym c.decode.ensures ∙ c.in-Char.is) (sym c.allowed.ensures ∙ c.if-allowed.false))
+    (refl, text_off _ _ _ _ (sym c.decode.ensures ∙ c.in-Some-decode.is) (sym c.allowed.ensures ∙ c.if-allowed.false))
 
 pub returns-in_default-decode-2 : goal.returns-in_default-decode-2
 returns-in_default-decode-2 c =
