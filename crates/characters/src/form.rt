@@ -5,40 +5,31 @@ ghost use Rattle.characters.specs.Forms.{in_range, second_from, second_to, more,
 
 use crate::utf8::Char;
 
-// A byte in a range of them.
-fn in_range(lo: u8, hi: u8, b: u8) -> bool
-    ensures { result ≡ in_range lo hi b }
+// A byte that continues a character.
+#[tactic(auto, unfolding(crate::specs::Forms::in_range))]
+fn continues(b: u8) -> bool
+    ensures { result ≡ in_range 0x80 0xBF b }
 {
-    lo <= b && b <= hi
+    (0x80..=0xBF).contains(&b)
 }
 
-// The least second byte: after E0 and F0 a lower one would be an overlong form.
-fn second_from(a: u8) -> u8
-    ensures { result ≡ second_from a }
+// A second byte after the first of a longer form. After E0 and F0 a lower one would be an overlong form; after ED a higher one
+// would be a surrogate, and after F4 a value past 10FFFF.
+#[tactic(auto, unfolding(crate::specs::Forms::in_range, crate::specs::Forms::second_from, crate::specs::Forms::second_to))]
+fn continues_after(a: u8, b: u8) -> bool
+    ensures { result ≡ in_range (second_from a) (second_to a) b }
 {
-    if a == 0xE0 {
-        0xA0
-    } else if a == 0xF0 {
-        0x90
-    } else {
-        0x80
-    }
-}
-
-// The greatest second byte: after ED a higher one would be a surrogate, after F4 a value past 10FFFF.
-fn second_to(a: u8) -> u8
-    ensures { result ≡ second_to a }
-{
-    if a == 0xED {
-        0x9F
-    } else if a == 0xF4 {
-        0x8F
-    } else {
-        0xBF
+    match a {
+        0xE0 => (0xA0..=0xBF).contains(&b),
+        0xED => (0x80..=0x9F).contains(&b),
+        0xF0 => (0x90..=0xBF).contains(&b),
+        0xF4 => (0x80..=0x8F).contains(&b),
+        _ => continues(b),
     }
 }
 
 // Six more bits of a code point.
+#[tactic(auto, using(crate::proofs::Bits::six))]
 fn add_six(acc: u32, b: u8) -> u32
     requires { acc < 65536 }
     ensures { result ≡ more acc b }
@@ -47,30 +38,25 @@ fn add_six(acc: u32, b: u8) -> u32
 }
 
 // The form of two bytes.
+#[tactic(auto, using(crate::proofs::Bits::masks), unfolding(crate::specs::Forms::two))]
 pub fn two_bytes(a: u8, b: u8) -> Option<Char>
     ensures { result ≡ two a b }
 {
-    if a < 0xC2 {
+    if a < 0xC2 || !continues(b) {
         return None;
     }
-    if in_range(0x80, 0xBF, b) {
-        Some(Char {
-            code: add_six(u32::from(a & 31), b),
-            len: 2,
-        })
-    } else {
-        None
-    }
+    Some(Char {
+        code: add_six(u32::from(a & 31), b),
+        len: 2,
+    })
 }
 
 // The form of three bytes.
+#[tactic(auto, using(crate::proofs::Bits::masks), unfolding(crate::specs::Forms::three))]
 pub fn three_bytes(a: u8, b: u8, c: u8) -> Option<Char>
     ensures { result ≡ three a b c }
 {
-    if !in_range(second_from(a), second_to(a), b) {
-        return None;
-    }
-    if !in_range(0x80, 0xBF, c) {
+    if !continues_after(a, b) || !continues(c) {
         return None;
     }
     Some(Char {
@@ -80,19 +66,11 @@ pub fn three_bytes(a: u8, b: u8, c: u8) -> Option<Char>
 }
 
 // The form of four bytes.
+#[tactic(auto, using(crate::proofs::Bits::masks), unfolding(crate::specs::Forms::four))]
 pub fn four_bytes(a: u8, b: u8, c: u8, d: u8) -> Option<Char>
     ensures { result ≡ four a b c d }
 {
-    if 0xF4 < a {
-        return None;
-    }
-    if !in_range(second_from(a), second_to(a), b) {
-        return None;
-    }
-    if !in_range(0x80, 0xBF, c) {
-        return None;
-    }
-    if !in_range(0x80, 0xBF, d) {
+    if 0xF4 < a || !continues_after(a, b) || !continues(c) || !continues(d) {
         return None;
     }
     Some(Char {

@@ -1,28 +1,17 @@
-use mathlib.Core.Path.{refl}
-use mathlib.Core.List.{[]}
-use native.Mathlib.Omega.{arith}
-use Rattle.characters.specs.Columns.{str_width}
-use Rattle.characters.specs.Utf8.{text_bytes}
-use Rattle.characters.proofs.Runs.{run_ascii}
+-- `characters::plain::ascii_run` meets its contract: it counts the bytes at the front that are printable ASCII.
+-- Assumes nothing.
+use Rattle.std.proofs.Common.{◌∙◌, rules, tests}
+use Rattle.std.proofs.lemmas.Iterator.{YieldsList-from_slice}
+use Rattle.std.proofs.lemmas.Iterator.Consumers.{count_from_yields_List}
+use Rattle.std.proofs.lemmas.Iterator.Search.{YieldsList-from_take_while}
+use Rattle.std.proofs.lemmas.List.Folds.{length-prefix_len}
+use Rattle.characters.specs.Ranges.{within}
+use Rattle.characters.proofs.Runs.{ascii_front}
 use Rattle.characters.proofs.plain.ascii_run.Goals as goal
-
-pub loop-at-init : goal.loop-at-init
-unfolding text_bytes str_width
-loop-at-init c =
-    (omega arith, record { cs = []; rest = _; plain = tt; whole = refl; bytes = refl; columns = refl })
-
-pub returns-then-b-lt32 : goal.returns-then-b-lt32
-returns-then-b-lt32 c =
-    c.loop-at.invariant
-
-pub returns-then-b-gt126 : goal.returns-then-b-gt126
-returns-then-b-gt126 c =
-    c.loop-at.invariant
-
-pub loop-at-preserved : goal.loop-at-preserved
-loop-at-preserved c =
-    (omega arith, run_ascii c.loop-at.invariant.1 c.loop-at-test.true c.if-b-lt32.false (omega (arith, c.if-b-gt126.false)))
 
 pub returns : goal.returns
 returns c =
-    c.loop-at.invariant
+    ascii_front c.args.s.now
+    (count_from_yields_List c.take_while.result _ c.count.ensures.ran
+    (YieldsList-from_take_while _ (within 0x20 0x7E) (YieldsList-from_slice c.args.s.now cc) c.take_while.ensures.closure c.take_while.ensures.done (λ x b q k. search (rules, tests)))
+    ∙ length-prefix_len (within 0x20 0x7E) c.args.s.now)
