@@ -9,7 +9,8 @@ use native.Mathlib.Omega.{arith}
 use borrow.Author.Tests.{eq-eqb, ne_eqb}
 use lib.ListN.{length, take, drop}
 use lib.Seq.{length-take-le, drop-drop}
-use Rattle.std.specs.Prelude.{if◌then◌else◌}
+use Rattle.std.specs.Prelude.{Result, Ok, Err, IsErr, if◌then◌else◌}
+use Rattle.std.proofs.lemmas.Result.{MatchResult-from_err}
 use Rattle.characters.specs.Columns.{width_of}
 use Rattle.characters.specs.Whitespace.{always_takes_space}
 use Rattle.characters.specs.Utf8.{decode_of, chars}
@@ -25,21 +26,16 @@ use Rattle.block.specs.Flat.{Block, walk, flat_flush_word, newline, tab, keep_bl
 use Rattle.block.specs.Flat as flat
 use Rattle.lines.specs.Bridge.{mode_no}
 use Rattle.hard_wrap.specs.Hold.{setup}
+use Rattle.hard_wrap.specs.declared.error.TooNarrow.{TooNarrow}
 use Rattle.hard_wrap.specs.declared.line.Frame.{Frame}
-use Rattle.flush_word.specs.Keep.{Keeps, CountsWithinUnits, BuffersLongEnough, StaysWithinUnits, NextBlock}
+use Rattle.flush_word.specs.Keep.{Keeps, CountsWithinUnits, BuffersLongEnough, NextBlock}
 use Rattle.flush_word.specs.declared.state.State.{State}
-use Rattle.flush_word.specs.declared.state.Flushed.{Flushed}
-use Rattle.flush_word.specs.declared.state.Flushed.TheVariants.{Done}
-use Rattle.flush_word.specs.declared.state.Flushed.TheVariants as flushed
 use Rattle.add_text.specs.Walks.{RunSmall, Ready, WalkedSmall, WalkSmall, CharIs, RunIs, WalkKeeps, NextWalk}
 use Rattle.add_text.specs.Walks.{AddsNewline, AddsTab, AddsKept, AddsCollapsed, AddsWordChar, BreaksWord, AddsBlank, PutsChar, AddsChar, AddsText}
 use Rattle.add_text.specs.Runs.{AddsPlain}
 use Rattle.add_text.specs.declared.text.Run.{Run}
 use Rattle.add_text.specs.declared.walk.Walk.{Walk}
 use Rattle.add_text.specs.declared.runs.Past.{Past}
-use Rattle.add_text.specs.declared.walk.Walked.{Walked}
-use Rattle.add_text.specs.declared.walk.Walked.TheVariants.{On}
-use Rattle.add_text.specs.declared.walk.Walked.TheVariants as walked
 use Rattle.hard_wrap.proofs.Walks.{part_len}
 
 -- ---- numbers
@@ -49,26 +45,24 @@ pub walked_more : {frame : Frame} {w : Walk} {m n : ℕ} → m ≤ n → WalkedS
 walked_more h x = record { small = x.small; ann = x.ann; used = omega (arith, h, x.used) }
 
 -- So may they after any answer.
-pub walk_more : (frame : Frame) (m n : ℕ) (r : Walked) → m ≤ n → WalkSmall frame m r → WalkSmall frame n r
-walk_more frame m n (On w) h x = walked_more h x
-walk_more frame m n walked.Narrow h x = tt
+pub walk_more : (frame : Frame) (m n : ℕ) (r : Result Walk TooNarrow) → m ≤ n → WalkSmall frame m r → WalkSmall frame n r
+walk_more frame m n (Ok w) h x = walked_more h x
+walk_more frame m n (Err e) h x = tt
 
 -- What is ready for a character is ready for one byte.
 pub ready_one : {frame : Frame} {w : Walk} {m : ℕ} → Ready frame w m → Ready frame w 1
 ready_one x = record { small = x.small; ann = x.ann; some = omega arith; units = omega (arith, x.some, x.units) }
 
 -- A flush leaves what is ready so.
-pub ready_next : (frame : Frame) (w : Walk) (m : ℕ) (f : Flushed) (st : State) → Ready frame w m → f ≡ Done st → StaysWithinUnits frame w.st.used f
+pub ready_next : (frame : Frame) (w : Walk) (m : ℕ) (st : State) → Ready frame w m → CountsWithinUnits frame st × (st.used ≡ w.st.used)
     → Ready frame (record { st = st; ann = w.ann }) m
-ready_next frame w m f st x e h =
-    let y : CountsWithinUnits frame st × (st.used ≡ w.st.used) = rw e at h in
+ready_next frame w m st x y =
     record { small = y.0; ann = x.ann; some = x.some; units = omega (arith, y.1, x.units) }
 
 -- The numbers after a character that follows a flush.
-pub walk_next : (frame : Frame) (used m : ℕ) (f : Flushed) (st : State) (r : Walked) → f ≡ Done st → StaysWithinUnits frame used f → WalkSmall frame (st.used + m) r
+pub walk_next : (frame : Frame) (used m : ℕ) (st : State) (r : Result Walk TooNarrow) → CountsWithinUnits frame st × (st.used ≡ used) → WalkSmall frame (st.used + m) r
     → WalkSmall frame (used + m) r
-walk_next frame used m f st r e h x =
-    let y : CountsWithinUnits frame st × (st.used ≡ used) = rw e at h in
+walk_next frame used m st r y x =
     walk_more frame (st.used + m) (used + m) r (omega (arith, y.1)) x
 
 -- Buffers of the same lengths are lent as well.
@@ -131,7 +125,7 @@ module _ (s : Setup) (m : Mode) (main c : ℕ) (v : flat.Walk) (h : mode_no m �
 
 module _ (frame : Frame) (run : Run) (w : Walk) (code : ℕ) (lb lt wb wt out : List ℕ) where
   -- White space collapses in Normal.
-  pub blank_collapses : (r : Walk) → run.mode ≡ 0 → AddsCollapsed w r → AddsBlank frame run w code lb lt wb wt out (On r) lb lt wb wt out
+  pub blank_collapses : (r : Walk) → run.mode ≡ 0 → AddsCollapsed w r → AddsBlank frame run w code lb lt wb wt out (Ok r) lb lt wb wt out
   blank_collapses r e f space d₀ base v m main wrap k i =
       record {
         walk = walk (collapse (tag v.ann normal) v.block) v.ann;
@@ -140,20 +134,20 @@ module _ (frame : Frame) (run : Run) (w : Walk) (code : ℕ) (lb lt wb wt out : 
       }
 
   -- LF closes the line.
-  pub blank_closes : (r : Walked) (lb' lt' out' : List ℕ) → (run.mode ≡ 0 → ⊥) → code ≡ 0x0A → AddsNewline frame run w.st lb lt wb wt out r lb' lt' out'
+  pub blank_closes : (r : Result Walk TooNarrow) (lb' lt' out' : List ℕ) → (run.mode ≡ 0 → ⊥) → code ≡ 0x0A → AddsNewline frame run w.st lb lt wb wt out r lb' lt' out'
       → AddsBlank frame run w code lb lt wb wt out r lb' lt' wb wt out'
   blank_closes r lb' lt' out' h e f space d₀ base v m main wrap k i =
       rw (blank_lf (setup frame) m main code v (λ q. h (i.mode ∙ q)) e, ← i.main_is) (f d₀ base v.block k.keeps)
 
   -- A tab goes to the next stop.
-  pub blank_tabs : (r : Walked) (lb' lt' out' : List ℕ) → (run.mode ≡ 0 → ⊥) → (code ≡ 0x0A → ⊥) → code ≡ 0x09 → AddsTab frame w run.mode lb lt wb wt out r lb' lt' out'
+  pub blank_tabs : (r : Result Walk TooNarrow) (lb' lt' out' : List ℕ) → (run.mode ≡ 0 → ⊥) → (code ≡ 0x0A → ⊥) → code ≡ 0x09 → AddsTab frame w run.mode lb lt wb wt out r lb' lt' out'
       → AddsBlank frame run w code lb lt wb wt out r lb' lt' wb wt out'
   blank_tabs r lb' lt' out' h n e f space d₀ base v m main wrap k i =
       rw (blank_tab (setup frame) m main code v (λ q. h (i.mode ∙ q)) n e) (f d₀ base v m k i.mode)
 
   -- Another blank is kept.
   pub blank_stays : (part : List ℕ) (r : Walk) (wb' wt' : List ℕ) → (run.mode ≡ 0 → ⊥) → (code ≡ 0x0A → ⊥) → (code ≡ 0x09 → ⊥)
-      → AddsKept w run.mode part code wb wt r wb' wt' → AddsBlank frame run w code lb lt wb wt out (On r) lb lt wb' wt' out
+      → AddsKept w run.mode part code wb wt r wb' wt' → AddsBlank frame run w code lb lt wb wt out (Ok r) lb lt wb' wt' out
   blank_stays part r wb' wt' h n t f space d₀ base v m main wrap k i =
       record {
         walk = walk (keep_blank (width_of code) code (tag v.ann m) v.block) v.ann;
@@ -181,12 +175,12 @@ module _ (s : Setup) (m : Mode) (main wrap c : ℕ) (v : flat.Walk) where
 
 module _ (frame : Frame) (run : Run) (w : Walk) (code : ℕ) (lb lt wb wt out : List ℕ) where
   -- U+200B changes nothing.
-  pub puts_none : code ≡ 0x200B → PutsChar frame run w code lb lt wb wt out (On w) lb lt wb wt out
+  pub puts_none : code ≡ 0x200B → PutsChar frame run w code lb lt wb wt out (Ok w) lb lt wb wt out
   puts_none e d₀ base v m main wrap k i = record { walk = v; is = char_none (setup frame) m main wrap code v e; keeps = k }
 
   -- A character of a word.
   pub puts_word_char : (part : List ℕ) (r : Walk) (wb' wt' : List ℕ) → (code ≡ 0x200B → ⊥) → always_takes_space code ≡ true
-      → AddsWordChar frame run w part code (width_of code) wb wt r wb' wt' → PutsChar frame run w code lb lt wb wt out (On r) lb lt wb' wt' out
+      → AddsWordChar frame run w part code (width_of code) wb wt r wb' wt' → PutsChar frame run w code lb lt wb wt out (Ok r) lb lt wb' wt' out
   puts_word_char part r wb' wt' h e f d₀ base v m main wrap k i =
       record {
         walk = add_word_char (setup frame) m wrap code (width_of code) v;
@@ -195,7 +189,7 @@ module _ (frame : Frame) (run : Run) (w : Walk) (code : ℕ) (lb lt wb wt out : 
       }
 
   -- White space.
-  pub puts_blank : (r : Walked) (lb' lt' wb' wt' out' : List ℕ) → (code ≡ 0x200B → ⊥) → always_takes_space code ≡ false
+  pub puts_blank : (r : Result Walk TooNarrow) (lb' lt' wb' wt' out' : List ℕ) → (code ≡ 0x200B → ⊥) → always_takes_space code ≡ false
       → AddsBlank frame run w code lb lt wb wt out r lb' lt' wb' wt' out' → PutsChar frame run w code lb lt wb wt out r lb' lt' wb' wt' out'
   puts_blank r lb' lt' wb' wt' out' h e f d₀ base v m main wrap k i =
       rw (char_blank (setup frame) m main wrap code v h e) (f e d₀ base v m main wrap k i)
@@ -213,20 +207,21 @@ module _ (s : Setup) (m : Mode) (main wrap c : ℕ) (v : flat.Walk) where
   unfolding step
   step_narrow e = rw e
 
-module _ (frame : Frame) (run : Run) (w : Walk) (code : ℕ) (lb lt wb wt out : List ℕ) (f : Flushed) (lb₁ lt₁ out₁ : List ℕ)
-    (breaks : BreaksWord frame run w.st code lb lt wb wt out f lb₁ lt₁ out₁) where
+module _ (frame : Frame) (run : Run) (w : Walk) (code : ℕ) (lb lt wb wt out lb₁ lt₁ out₁ : List ℕ) where
   -- The character goes on from the word closed or not.
-  pub adds_char : (st : State) (r : Walked) (lb' lt' wb' wt' out' : List ℕ) → f ≡ Done st
+  pub adds_char : (st : State) (r : Result Walk TooNarrow) (lb' lt' wb' wt' out' : List ℕ) → BreaksWord frame run w.st code lb lt wb wt out (Ok st) lb₁ lt₁ out₁
       → PutsChar frame run (record { st = st; ann = w.ann }) code lb₁ lt₁ wb wt out₁ r lb' lt' wb' wt' out'
       → AddsChar frame run w code lb lt wb wt out r lb' lt' wb' wt' out'
-  adds_char st r lb' lt' wb' wt' out' e p d₀ base v m main wrap k i =
-      let x : NextBlock (break_word (setup frame) m code v.block) d₀ base st lb₁ lt₁ wb wt out₁ = rw e at (breaks d₀ base v.block m main wrap k.keeps i) in
+  adds_char st r lb' lt' wb' wt' out' breaks p d₀ base v m main wrap k i =
+      let x : NextBlock (break_word (setup frame) m code v.block) d₀ base st lb₁ lt₁ wb wt out₁ = breaks d₀ base v.block m main wrap k.keeps i in
       rw (step_on (setup frame) m main wrap code v x.block x.is)
       (p d₀ base (walk x.block v.ann) m main wrap (record { keeps = x.keeps; ann = k.ann }) i)
 
   -- TooNarrow.
-  pub adds_narrow : f ≡ flushed.Narrow → AddsChar frame run w code lb lt wb wt out walked.Narrow lb₁ lt₁ wb wt out₁
-  adds_narrow e d₀ base v m main wrap k i = step_narrow (setup frame) m main wrap code v (rw e at (breaks d₀ base v.block m main wrap k.keeps i))
+  pub adds_narrow : (n : TooNarrow) (r : Result Walk TooNarrow) → BreaksWord frame run w.st code lb lt wb wt out (Err n) lb₁ lt₁ out₁ → IsErr r
+      → AddsChar frame run w code lb lt wb wt out r lb₁ lt₁ wb wt out₁
+  adds_narrow n r breaks h d₀ base v m main wrap k i =
+      MatchResult-from_err r _ _ h (λ _. step_narrow (setup frame) m main wrap code v (breaks d₀ base v.block m main wrap k.keeps i))
 
 -- ---- the first character of a text
 
@@ -362,7 +357,7 @@ module _ {frame : Frame} {run : Run} {text lb₀ lt₀ wb₀ wt₀ out₀ : List
 
   -- Where no character is left the walk is made.
   pub walking_ends : decode_of (take (length text - at) (drop at text)) ≡ Bad
-      → AddsText frame run start.st text lb₀ lt₀ wb₀ wt₀ out₀ (Done cur.st) lb lt wb wt out
+      → AddsText frame run start.st text lb₀ lt₀ wb₀ wt₀ out₀ (Ok cur.st) lb lt wb wt out
   walking_ends e d₀ base b m main wrap cs k i t =
       let g = inv.gone d₀ base b m main wrap cs k i t in
       let x = no_chars (take (length text - at) (drop at text)) g.zs e (left_is g.zs g.left) in
@@ -399,13 +394,12 @@ module _ {frame : Frame} {run : Run} {text lb₀ lt₀ wb₀ wt₀ out₀ : List
           units = omega (arith, char_length, char_inside, inv.small.used, u);
         }
 
-    module _ (r : Walked) (lb' lt' wb' wt' out' : List ℕ) (adds : AddsChar frame run cur c lb lt wb wt out r lb' lt' wb' wt' out') where
+    module _ (lb' lt' wb' wt' out' : List ℕ) where
       -- A character that is walked keeps the invariant.
-      pub walking_on : (w : Walk) → r ≡ On w → WalkSmall frame (cur.st.used + length (take (at + k - at) (drop at text))) r
+      pub walking_on : (w : Walk) → AddsChar frame run cur c lb lt wb wt out (Ok w) lb' lt' wb' wt' out' → WalkedSmall frame w (cur.st.used + length (take (at + k - at) (drop at text)))
           → length lb' ≡ length lb → length lt' ≡ length lt → length wb' ≡ length wb → length wt' ≡ length wt → length out' ≡ length out
           → Walking frame run text lb₀ lt₀ wb₀ wt₀ out₀ start lb' lt' wb' wt' out' w (at + k)
-      walking_on w q x p₁ p₂ p₃ p₄ p₅ =
-          let y : WalkedSmall frame w (cur.st.used + length (take (at + k - at) (drop at text))) = rw q at x in
+      walking_on w adds y p₁ p₂ p₃ p₄ p₅ =
           record {
             inside = char_inside;
             small = walked_more (omega (arith, char_length, inv.small.used)) y;
@@ -418,7 +412,7 @@ module _ {frame : Frame} {run : Run} {text lb₀ lt₀ wb₀ wt₀ out₀ : List
                 let g = inv.gone d₀ base b m main wrap cs o i t in
                 let (zs, ez, ex) = some_cons c (chars (drop k (take (length text - at) (drop at text)))) g.zs
                 (sym (chars_step (take (length text - at) (drop at text)) c k e) ∙ left_is g.zs g.left) in
-                let n : NextWalk (step (setup frame) m main wrap c g.v) d₀ base w lb' lt' wb' wt' out' = rw q at (adds d₀ base g.v m main wrap g.keeps i) in
+                let n : NextWalk (step (setup frame) m main wrap c g.v) d₀ base w lb' lt' wb' wt' out' = adds d₀ base g.v m main wrap g.keeps i in
                 record {
                   v = n.walk;
                   zs = zs;
@@ -429,10 +423,11 @@ module _ {frame : Frame} {run : Run} {text lb₀ lt₀ wb₀ wt₀ out₀ : List
           }
 
       -- Without room for it the text has none.
-      pub walking_narrow : r ≡ walked.Narrow → AddsText frame run start.st text lb₀ lt₀ wb₀ wt₀ out₀ flushed.Narrow lb' lt' wb' wt' out'
-      walking_narrow q d₀ base b m main wrap cs o i t =
+      pub walking_narrow : (n : TooNarrow) (r : Result State TooNarrow) → AddsChar frame run cur c lb lt wb wt out (Err n) lb' lt' wb' wt' out' → IsErr r
+          → AddsText frame run start.st text lb₀ lt₀ wb₀ wt₀ out₀ r lb' lt' wb' wt' out'
+      walking_narrow n r adds h d₀ base b m main wrap cs o i t =
           let g = inv.gone d₀ base b m main wrap cs o i t in
           let (zs, ez, ex) = some_cons c (chars (drop k (take (length text - at) (drop at text)))) g.zs
           (sym (chars_step (take (length text - at) (drop at text)) c k e) ∙ left_is g.zs g.left) in
-          let n : step (setup frame) m main wrap c g.v ≡ too_narrow = rw q at (adds d₀ base g.v m main wrap g.keeps i) in
-          text_narrow (setup frame) m main wrap cs b (g.same ∙ steps_narrow (setup frame) m main wrap c g.zs zs g.v ex n)
+          let x : step (setup frame) m main wrap c g.v ≡ too_narrow = adds d₀ base g.v m main wrap g.keeps i in
+          MatchResult-from_err r _ _ h (λ _. text_narrow (setup frame) m main wrap cs b (g.same ∙ steps_narrow (setup frame) m main wrap c g.zs zs g.v ex x))

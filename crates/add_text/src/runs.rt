@@ -13,7 +13,7 @@ use hard_wrap::line::Frame;
 use hard_wrap::numbers::{least, less};
 
 // How plain characters are taken: at most so many bytes, the annotation, and `pre_wrapped` after them.
-#[derive(Clone, Copy)]
+#[derive(Clone, Copy, Debug, PartialEq, Eq)]
 pub struct Take {
     pub most: usize,
     pub ann: u32,
@@ -21,7 +21,7 @@ pub struct Take {
 }
 
 // A walk, and the bytes of the text that are behind.
-#[derive(Clone, Copy)]
+#[derive(Clone, Copy, Debug, PartialEq, Eq)]
 pub struct Past {
     pub w: Walk,
     pub len: usize,

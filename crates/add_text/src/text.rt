@@ -4,13 +4,14 @@ ghost use Rattle.flush_word.specs.Keep.{CountsWithinUnits, BuffersLongEnough};
 ghost use Rattle.add_text.specs.Walks.{RunSmall, TextSmall, AddsText};
 
 use crate::runs::add_plain;
-use crate::walk::{Walk, Walked, add_char};
+use crate::walk::{Walk, add_char};
 use characters::utf8::{Decoded, decode};
-use flush_word::state::{Flushed, State};
+use flush_word::state::State;
+use hard_wrap::error::TooNarrow;
 use hard_wrap::line::Frame;
 
 // What a T field says of its text: the mode, 0 to 2, and the two annotations.
-#[derive(Clone, Copy)]
+#[derive(Clone, Copy, Debug, PartialEq, Eq)]
 pub struct Run {
     pub mode: u32,
     pub main: u32,
@@ -38,7 +39,7 @@ pub fn add_text(
     wb: &mut [u8],
     wt: &mut [u32],
     out: &mut [u8],
-) -> Flushed
+) -> Result<State, TooNarrow>
     requires counts_within_units { CountsWithinUnits frame st × BuffersLongEnough frame (length lb.old) (length lt.old) (length wb.old) (length wt.old) }
     requires run_small { RunSmall run × (st.used + length text.now ≤ 4096) }
     ensures text_small { TextSmall frame (st.used + length text.now) result }
@@ -60,20 +61,11 @@ pub fn add_text(
             Decoded::Char { code, len } => {
                 let end = at + len;
                 let part = &text[at..end];
-                let done = add_char(frame, run, cur, code, part, lb, lt, wb, wt, out);
-                match done {
-                    Walked::On(w) => {
-                        cur = w;
-                        at = end;
-                    }
-                    Walked::Narrow => {
-                        return Flushed::Narrow;
-                    }
-                }
+                cur = add_char(frame, run, cur, code, part, lb, lt, wb, wt, out)?;
+                at = end;
             }
             Decoded::Bad => {
-                let last = cur.st;
-                return Flushed::Done(last);
+                return Ok(cur.st);
             }
         }
     }

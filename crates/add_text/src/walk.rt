@@ -13,21 +13,16 @@ use add_chars::stops::{newline, tab};
 use characters::columns::{Columns, columns_of};
 use characters::whitespace::{always_takes_space, is_wordbreak_point};
 use fields::field::wide;
-use flush_word::state::{Flushed, State};
+use flush_word::state::State;
 use flush_word::word::flush_word;
+use hard_wrap::error::TooNarrow;
 use hard_wrap::line::Frame;
 
 // The state, and the annotation in use (the local `tag` of `add_text`).
-#[derive(Clone, Copy)]
+#[derive(Clone, Copy, Debug, PartialEq, Eq)]
 pub struct Walk {
     pub st: State,
     pub ann: u32,
-}
-
-#[derive(Clone, Copy)]
-pub enum Walked {
-    On(Walk),
-    Narrow,
 }
 
 // Annotation and mode in one number.
@@ -48,7 +43,7 @@ fn add_newline(
     wb: &[u8],
     wt: &[u32],
     out: &mut [u8],
-) -> Walked
+) -> Result<Walk, TooNarrow>
     requires counts_within_units { CountsWithinUnits frame st × BuffersLongEnough frame (length lb.old) (length lt.old) (length wb.now) (length wt.now) }
     requires run_small { RunSmall run × (st.used < 4096) }
     ensures walk_small { WalkSmall frame (st.used + 1) result }
@@ -56,17 +51,12 @@ fn add_newline(
         lb.old lt.old wb.now wt.now out.old result
         lb.new lt.new out.new }
 {
-    let f = flush_word(frame, st, lb, lt, wb, wt, out);
-    match f {
-        Flushed::Done(done) => {
-            let next = newline(frame, done, lb, lt, out);
-            Walked::On(Walk {
-                st: next,
-                ann: run.main,
-            })
-        }
-        Flushed::Narrow => Walked::Narrow,
-    }
+    let done = flush_word(frame, st, lb, lt, wb, wt, out)?;
+    let next = newline(frame, done, lb, lt, out);
+    Ok(Walk {
+        st: next,
+        ann: run.main,
+    })
 }
 
 // A tab: the word is flushed, and spaces go to the next stop.
@@ -79,7 +69,7 @@ fn add_tab(
     wb: &[u8],
     wt: &[u32],
     out: &mut [u8],
-) -> Walked
+) -> Result<Walk, TooNarrow>
     requires ready { Ready frame w 1 × BuffersLongEnough frame (length lb.old) (length lt.old) (length wb.now) (length wt.now) }
     requires mode_bound { mode < 3 }
     ensures walk_small { WalkSmall frame (w.st.used + 1) result }
@@ -88,14 +78,9 @@ fn add_tab(
     let st = w.st;
     let ann = w.ann;
     let tag = tag_of(ann, mode);
-    let f = flush_word(frame, st, lb, lt, wb, wt, out);
-    match f {
-        Flushed::Done(done) => {
-            let next = tab(frame, done, lb, lt, tag, out);
-            Walked::On(Walk { st: next, ann })
-        }
-        Flushed::Narrow => Walked::Narrow,
-    }
+    let done = flush_word(frame, st, lb, lt, wb, wt, out)?;
+    let next = tab(frame, done, lb, lt, tag, out);
+    Ok(Walk { st: next, ann })
 }
 
 // A blank that is neither LF nor tab where white space is kept; a control is dropped.
@@ -223,7 +208,7 @@ fn break_word(
     wb: &[u8],
     wt: &[u32],
     out: &mut [u8],
-) -> Flushed
+) -> Result<State, TooNarrow>
     requires { CountsWithinUnits frame st × BuffersLongEnough frame (length lb.old) (length lt.old) (length wb.now) (length wt.now) }
     ensures stays_within_units { StaysWithinUnits frame st.used result }
     ensures breaks_word { BreaksWord frame run st code
@@ -232,15 +217,15 @@ fn break_word(
 {
     let word = st.word;
     if word.cols == 0 {
-        return Flushed::Done(st);
+        return Ok(st);
     }
     if run.mode == 1 {
-        return Flushed::Done(st);
+        return Ok(st);
     }
     if is_wordbreak_point(code) {
         return flush_word(frame, st, lb, lt, wb, wt, out);
     }
-    Flushed::Done(st)
+    Ok(st)
 }
 
 // White space, but for U+00A0.
@@ -255,7 +240,7 @@ fn add_blank(
     wb: &mut [u8],
     wt: &mut [u32],
     out: &mut [u8],
-) -> Walked
+) -> Result<Walk, TooNarrow>
     requires ready { Ready frame w (length part.now) × BuffersLongEnough frame (length lb.old) (length lt.old) (length wb.old) (length wt.old) }
     requires char_is { CharIs part.now code × RunSmall run }
     ensures walk_small { WalkSmall frame (w.st.used + length part.now) result }
@@ -264,7 +249,7 @@ fn add_blank(
         lb.new lt.new wb.new wt.new out.new }
 {
     if run.mode == 0 {
-        return Walked::On(add_collapsed(frame, w));
+        return Ok(add_collapsed(frame, w));
     }
     if code == 0x0A {
         return add_newline(frame, run, w.st, lb, lt, wb, wt, out);
@@ -272,7 +257,7 @@ fn add_blank(
     if code == 0x09 {
         return add_tab(frame, w, run.mode, lb, lt, wb, wt, out);
     }
-    Walked::On(add_kept(frame, w, run.mode, wb, wt, part, code))
+    Ok(add_kept(frame, w, run.mode, wb, wt, part, code))
 }
 
 // The character itself, the word before it closed or not.
@@ -287,7 +272,7 @@ fn put_char(
     wb: &mut [u8],
     wt: &mut [u32],
     out: &mut [u8],
-) -> Walked
+) -> Result<Walk, TooNarrow>
     requires ready { Ready frame w (length part.now) × BuffersLongEnough frame (length lb.old) (length lt.old) (length wb.old) (length wt.old) }
     requires char_is { CharIs part.now code × RunSmall run }
     ensures walk_small { WalkSmall frame (w.st.used + length part.now) result }
@@ -296,10 +281,10 @@ fn put_char(
         lb.new lt.new wb.new wt.new out.new }
 {
     if code == 0x200B {
-        return Walked::On(w);
+        return Ok(w);
     }
     if always_takes_space(code) {
-        return Walked::On(add_word_char(frame, run, w, wb, wt, part, code));
+        return Ok(add_word_char(frame, run, w, wb, wt, part, code));
     }
     add_blank(frame, run, w, code, part, lb, lt, wb, wt, out)
 }
@@ -316,7 +301,7 @@ pub fn add_char(
     wb: &mut [u8],
     wt: &mut [u32],
     out: &mut [u8],
-) -> Walked
+) -> Result<Walk, TooNarrow>
     requires ready { Ready frame w (length part.now) × BuffersLongEnough frame (length lb.old) (length lt.old) (length wb.old) (length wt.old) }
     requires char_is { CharIs part.now code × RunSmall run }
     ensures walk_small { WalkSmall frame (w.st.used + length part.now) result }
@@ -326,12 +311,7 @@ pub fn add_char(
 {
     let st = w.st;
     let ann = w.ann;
-    let f = break_word(frame, run, st, code, lb, lt, wb, wt, out);
-    match f {
-        Flushed::Done(next) => {
-            let on = Walk { st: next, ann };
-            put_char(frame, run, on, code, part, lb, lt, wb, wt, out)
-        }
-        Flushed::Narrow => Walked::Narrow,
-    }
+    let next = break_word(frame, run, st, code, lb, lt, wb, wt, out)?;
+    let on = Walk { st: next, ann };
+    put_char(frame, run, on, code, part, lb, lt, wb, wt, out)
 }

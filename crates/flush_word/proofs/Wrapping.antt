@@ -10,12 +10,13 @@ use borrow.Author.Tests.{le-leb, lt-leb}
 use lib.Dec.{leb}
 use lib.ListN.{length, take, drop, length-take, length-drop}
 use lib.Seq.{length-take-le}
+use Rattle.std.specs.Prelude.{Result, Ok, Err}
 use Rattle.characters.specs.Whitespace.{is_whitespace}
 use Rattle.characters.proofs.Tests.{by_if}
 use Rattle.fields.specs.Job.{Mode, normal, pre, pre_wrap}
 use Rattle.fields.specs.declared.job.Setup.{Setup}
 use Rattle.block.specs.Tag.{Tag, tag}
-use Rattle.block.specs.Result.{Result, good, too_narrow, OnGood}
+use Rattle.block.specs.Result.{Result as FlatResult, good, too_narrow, OnGood}
 use Rattle.block.specs.Flat.{Line, char, name, Block, columns, has_text, trim_front, with_word, with_wrapped, left, on_line, flat_force_flush_line, flat_flush_line, flat_flush_word_hard_wrap, put_word, flat_at_wrap, drop_blanks, write_blank, write_blanks, starts_pre, carry_on, wrap_word, flat_flush_word}
 use Rattle.block.specs.TrimsLeaveText.{TrimsLeaveText}
 use Rattle.block.proofs.NonSpaces.{texted, trims_drop, trims_wrap}
@@ -24,15 +25,13 @@ use Rattle.lines.specs.Bridge.{num, enc, Valid}
 use Rattle.lines.proofs.Kept.{Kept, hard_keeps}
 use Rattle.hard_wrap.specs.Hold.{setup, Holds, Worded, WordIs, Wraps}
 use Rattle.hard_wrap.specs.Steps.{Flushes, Writes}
+use Rattle.hard_wrap.specs.declared.error.TooNarrow.{TooNarrow}
 use Rattle.hard_wrap.specs.declared.line.Frame.{Frame}
 use Rattle.hard_wrap.specs.declared.line.Open.{Open}
-use Rattle.hard_wrap.specs.declared.wrap.Wrapped.{Wrapped}
-use Rattle.hard_wrap.specs.declared.wrap.Wrapped.TheVariants.{Done, Narrow}
 use Rattle.hard_wrap.proofs.Blanks.{holds_same, blanks_none}
 use Rattle.flush_word.specs.Keep.{Keeps, BlanksLeft, Dropped-is, OpensLine, StartsAt, StartsPre, PutsWord, NextBlock, ResultIs, WrapsWord}
 use Rattle.flush_word.specs.declared.state.Blanks.{Blanks}
 use Rattle.flush_word.specs.declared.state.State.{State}
-use Rattle.flush_word.specs.declared.state.Flushed.{Flushed}
 use Rattle.flush_word.specs.declared.space.Dropped.{Dropped}
 use Rattle.flush_word.proofs.Flushing.{holds_lines, opened, keeps_same, keeps_opened}
 
@@ -150,7 +149,7 @@ word_front n wb wt w e = e
 word_part : (k n : ℕ) (wb wt : List ℕ) (w : Line) → zip (drop k (take n wb)) (drop k (take n wt)) ≡ enc w → zip (take (n - k) (drop k wb)) (take (n - k) (drop k wt)) ≡ enc w
 word_part k n wb wt w e = rw (drop_take k n wb, drop_take k n wt) at e
 
-module _ (frame : Frame) (st : State) (k : ℕ) (line : Open) (lb lt wb wt out lb₁ lt₁ out₁ lb' lt' out' : List ℕ) (r : Wrapped)
+module _ (frame : Frame) (st : State) (k : ℕ) (line : Open) (lb lt wb wt out lb₁ lt₁ out₁ lb' lt' out' : List ℕ) (r : Result Open TooNarrow)
     (from : StartsAt st.blanks (take st.word.n wb) (take st.word.n wt) k)
     (next : OpensLine frame st lb lt out line lb₁ lt₁ out₁)
     (wrap : Wraps frame line (take (st.word.n - k) (drop k wb)) (take (st.word.n - k) (drop k wt)) lb₁ lt₁ out₁ r lb' lt' out')
@@ -172,11 +171,11 @@ module _ (frame : Frame) (st : State) (k : ℕ) (line : Open) (lb lt wb wt out l
       (word_part k st.word.n wb wt (drop_blanks (setup frame) b.spacetag b).word e ∙ ap enc (sym onto_word))
 
   -- TooNarrow
-  pub wrap_narrow : r ≡ Narrow → wrap_word (setup frame) b ≡ too_narrow
-  wrap_narrow q = rw q at word_is
+  pub wrap_narrow : (n : TooNarrow) → r ≡ Err n → wrap_word (setup frame) b ≡ too_narrow
+  wrap_narrow n q = rw q at word_is
 
   -- The word is on lines.
-  pub wrap_done : (last : Open) (p : Bool) (u : ℕ) (st' : State) → r ≡ Done last → opened last p u ≡ st' → StartsPre (take st.word.n wt) p
+  pub wrap_done : (last : Open) (p : Bool) (u : ℕ) (st' : State) → r ≡ Ok last → opened last p u ≡ st' → StartsPre (take st.word.n wt) p
       → st.word.n ≤ length wb → st.word.n ≤ length wt → NextBlock (wrap_word (setup frame) b) d₀ base st' lb' lt' wb wt out'
   unfolding wrap_word flat_flush_word_hard_wrap carry_on onto
   wrap_done last p u st' q g f h i =
@@ -224,10 +223,10 @@ module _ (frame : Frame) (st : State) (d₀ : List ℕ) (base : ℕ) (b : Block)
         }
 
   -- "Not enough space"
-  pub flushes_wraps : (r : Flushed) (lb' lt' out' : List ℕ) → st.word.text ≡ true → frame.width - st.line.cols < st.blanks.count + st.word.cols
+  pub flushes_wraps : (r : Result State TooNarrow) (lb' lt' out' : List ℕ) → st.word.text ≡ true → frame.width - st.line.cols < st.blanks.count + st.word.cols
       → WrapsWord frame st lb lt wb wt out r lb' lt' out' → ResultIs (flat_flush_word (setup frame) b) d₀ base r lb' lt' wb wt out'
   unfolding left
   flushes_wraps r lb' lt' out' e h k =
-      subst (λ (x : Result Block). ResultIs x d₀ base r lb' lt' wb wt out')
+      subst (λ (x : FlatResult Block). ResultIs x d₀ base r lb' lt' wb wt out')
       (flush_wraps (setup frame) b (sym o.text ∙ e) (omega (arith, h, o.count, o.cols, o.line.cols)))
       (k d₀ base b o (sym o.text ∙ e))

@@ -1,23 +1,22 @@
 -- What the state and the lent buffers hold of the flat block, the numbers that keep them in bounds, and the step of each function.
 -- Assumes nothing: these are definitions.
-use Rattle.std.specs.Prelude.{◌≡◌, Bool, true, false, List, ℕ, ◌+◌, ◌-◌, ◌*◌, ◌<◌, ◌≤◌, min, length, drop}
+use Rattle.std.specs.Prelude.{◌≡◌, Bool, true, false, List, ℕ, ◌+◌, ◌-◌, ◌*◌, ◌<◌, ◌≤◌, min, length, drop, Result, IfOk, MatchResult}
 use Rattle.std.proofs.Math.Option.{Option, none, some}
 use Rattle.fields.specs.declared.job.Setup.{Setup}
 use Rattle.fields.specs.Job.{pre}
 use Rattle.block.specs.Tag.{Tag}
-use Rattle.block.specs.Result.{Result, good, too_narrow}
+use Rattle.block.specs.Result.{Result as FlatResult, good, too_narrow}
 use Rattle.block.specs.Flat.{Line, Block, columns, has_text, trim_back, with_line, with_wrapped, flat_flush_line, flat_at_wrap, put_word, drop_blanks, carry_on, starts_pre, wrap_word, flat_flush_word}
 use Rattle.block.specs.TrimsLeaveText.{TrimsLeaveText}
 use Rattle.lines.specs.Items.{items, zip}
 use Rattle.lines.specs.Bridge.{num, enc, Valid}
 use Rattle.hard_wrap.specs.Hold.{setup, Holds}
+use Rattle.hard_wrap.specs.declared.error.TooNarrow.{TooNarrow}
 use Rattle.hard_wrap.specs.declared.line.Frame.{Frame}
 use Rattle.hard_wrap.specs.declared.line.Open.{Open}
 use Rattle.flush_word.specs.declared.state.Word.{Word}
 use Rattle.flush_word.specs.declared.state.Blanks.{Blanks}
 use Rattle.flush_word.specs.declared.state.State.{State}
-use Rattle.flush_word.specs.declared.state.Flushed.{Flushed}
-use Rattle.flush_word.specs.declared.state.Flushed.TheVariants.{Done, Narrow}
 use Rattle.flush_word.specs.declared.space.Dropped.{Dropped}
 
 abbrev pub no_word : Word
@@ -138,28 +137,26 @@ PutsWord st lb lt wb wt r lb' lt' =
     → Keeps d₀ base (put_word (with_wrapped false b)) r lb' lt' wb wt out
 
 -- what a result of the flat block is in the code: TooNarrow, or a state that keeps the next block
-pub record NextBlock (o : Result Block) (d₀ : List ℕ) (base : ℕ) (r : State) (lb lt wb wt out : List ℕ) : Type 0 where
+pub record NextBlock (o : FlatResult Block) (d₀ : List ℕ) (base : ℕ) (r : State) (lb lt wb wt out : List ℕ) : Type 0 where
   pub block : Block
   pub is : o ≡ good block
   pub keeps : Keeps d₀ base block r lb lt wb wt out
 
-abbrev pub ResultIs : Result Block → List ℕ → ℕ → Flushed → List ℕ → List ℕ → List ℕ → List ℕ → List ℕ → Type 0
-ResultIs o d₀ base Narrow lb lt wb wt out = o ≡ too_narrow
-ResultIs o d₀ base (Done r) lb lt wb wt out = NextBlock o d₀ base r lb lt wb wt out
+abbrev pub ResultIs : FlatResult Block → List ℕ → ℕ → Result State TooNarrow → List ℕ → List ℕ → List ℕ → List ℕ → List ℕ → Type 0
+ResultIs o d₀ base r lb lt wb wt out = MatchResult r (λ x. NextBlock o d₀ base x lb lt wb wt out) (λ _. o ≡ too_narrow)
 
 -- the numbers after a flush
-abbrev pub StaysWithinUnits : Frame → ℕ → Flushed → Type 0
-StaysWithinUnits frame used Narrow = Unit {0}
-StaysWithinUnits frame used (Done r) = CountsWithinUnits frame r × (r.used ≡ used)
+abbrev pub StaysWithinUnits : Frame → ℕ → Result State TooNarrow → Type 0
+StaysWithinUnits frame used r = IfOk r (λ x. CountsWithinUnits frame x × (x.used ≡ used))
 
 -- "Not enough space"
-abbrev pub WrapsWord : Frame → State → List ℕ → List ℕ → List ℕ → List ℕ → List ℕ → Flushed → List ℕ → List ℕ → List ℕ → Type 0
+abbrev pub WrapsWord : Frame → State → List ℕ → List ℕ → List ℕ → List ℕ → List ℕ → Result State TooNarrow → List ℕ → List ℕ → List ℕ → Type 0
 WrapsWord frame st lb lt wb wt out r lb' lt' out' =
     (d₀ : List ℕ) (base : ℕ) (b : Block) → Keeps d₀ base b st lb lt wb wt out → has_text b.word ≡ true
     → ResultIs (wrap_word (setup frame) b) d₀ base r lb' lt' wb wt out'
 
 -- `flush_word`
-abbrev pub FlushesWord : Frame → State → List ℕ → List ℕ → List ℕ → List ℕ → List ℕ → Flushed → List ℕ → List ℕ → List ℕ → Type 0
+abbrev pub FlushesWord : Frame → State → List ℕ → List ℕ → List ℕ → List ℕ → List ℕ → Result State TooNarrow → List ℕ → List ℕ → List ℕ → Type 0
 FlushesWord frame st lb lt wb wt out r lb' lt' out' =
     (d₀ : List ℕ) (base : ℕ) (b : Block) → Keeps d₀ base b st lb lt wb wt out
     → ResultIs (flat_flush_word (setup frame) b) d₀ base r lb' lt' wb wt out'

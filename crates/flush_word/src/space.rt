@@ -9,7 +9,7 @@ use hard_wrap::numbers::less;
 use lines::buffer::push_blanks;
 
 // The line and the blanks that are left, once a word does not fit.
-#[derive(Clone, Copy)]
+#[derive(Clone, Copy, Debug, PartialEq, Eq)]
 pub struct Dropped {
     pub line: Open,
     pub blanks: Blanks,

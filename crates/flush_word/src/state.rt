@@ -5,7 +5,7 @@ ghost use Rattle.flush_word.specs.Keep.{no_word, no_blanks};
 use hard_wrap::line::Open;
 
 // The word still open: its entries, its columns (`wordlen`), and whether it has text (`!word.is_empty()`).
-#[derive(Clone, Copy)]
+#[derive(Clone, Copy, Debug, PartialEq, Eq)]
 pub struct Word {
     pub n: usize,
     pub cols: usize,
@@ -13,7 +13,7 @@ pub struct Word {
 }
 
 // Pending blanks and their tag (`wslen`, `spacetag`); the tag says nothing while there are none.
-#[derive(Clone, Copy)]
+#[derive(Clone, Copy, Debug, PartialEq, Eq)]
 pub struct Blanks {
     pub count: usize,
     pub tag: u32,
@@ -21,20 +21,13 @@ pub struct Blanks {
 
 // The open line with the place past the closed ones, the word, the blanks before it, `pre_wrapped`, and
 // how many of the job's units are behind, at most 4,096.
-#[derive(Clone, Copy)]
+#[derive(Clone, Copy, Debug, PartialEq, Eq)]
 pub struct State {
     pub line: Open,
     pub word: Word,
     pub blanks: Blanks,
     pub wrapped: bool,
     pub used: usize,
-}
-
-// What flushing comes to: the next state, or TooNarrow.
-#[derive(Clone, Copy)]
-pub enum Flushed {
-    Done(State),
-    Narrow,
 }
 
 // A word of nothing.

@@ -3,11 +3,12 @@ ghost use Rattle.std.specs.Prelude.{◌≡◌, true, false, ◌+◌, ◌-◌, �
 ghost use Rattle.flush_word.specs.Keep.{no_word, no_blanks, CountsWithinUnits, BuffersLongEnough, PutsWord, StartsPre, StartsAt, Opened, OpensLine, StaysWithinUnits, WrapsWord, FlushesWord};
 
 use crate::space::{drop_blanks, mode_of};
-use crate::state::{Blanks, Flushed, State, no_blanks, no_word};
+use crate::state::{Blanks, State, no_blanks, no_word};
 use crate::trim::white_front;
+use hard_wrap::error::TooNarrow;
 use hard_wrap::flush::{flush_line, write_blanks};
 use hard_wrap::line::{Frame, Open};
-use hard_wrap::wrap::{Wrapped, hard_wrap};
+use hard_wrap::wrap::hard_wrap;
 use lines::buffer::{append, push_blanks};
 use lines::encode::MARK;
 
@@ -98,7 +99,7 @@ fn wrap_word(
     wb: &[u8],
     wt: &[u32],
     out: &mut [u8],
-) -> Flushed
+) -> Result<State, TooNarrow>
     requires counts_within_units { CountsWithinUnits frame st × BuffersLongEnough frame (length lb.old) (length lt.old) (length wb.now) (length wt.now) }
     requires text_value { st.word.text ≡ true }
     ensures stays_within_units { StaysWithinUnits frame st.used result }
@@ -110,11 +111,8 @@ fn wrap_word(
     let pre = starts_pre(&wt[..n]);
     let start = word_start(blanks, &wb[..n], &wt[..n]);
     let line = next_line(frame, st, lb, lt, out);
-    let done = hard_wrap(frame, line, lb, lt, &wb[start..n], &wt[start..n], out);
-    match done {
-        Wrapped::Done(next) => Flushed::Done(emptied(next, pre, st.used)),
-        Wrapped::Narrow => Flushed::Narrow,
-    }
+    let last = hard_wrap(frame, line, lb, lt, &wb[start..n], &wt[start..n], out)?;
+    Ok(emptied(last, pre, st.used))
 }
 
 // `flush_word`: nothing while the word has no text.
@@ -126,7 +124,7 @@ pub fn flush_word(
     wb: &[u8],
     wt: &[u32],
     out: &mut [u8],
-) -> Flushed
+) -> Result<State, TooNarrow>
     requires { CountsWithinUnits frame st × BuffersLongEnough frame (length lb.old) (length lt.old) (length wb.now) (length wt.now) }
     ensures stays_within_units { StaysWithinUnits frame st.used result }
     ensures flushes_word { FlushesWord frame st lb.old lt.old wb.now wt.now out.old result lb.new lt.new out.new }
@@ -135,10 +133,10 @@ pub fn flush_word(
     let word = st.word;
     let blanks = st.blanks;
     if !word.text {
-        return Flushed::Done(st);
+        return Ok(st);
     }
     if blanks.count + word.cols <= frame.width - line.cols {
-        return Flushed::Done(put_word(frame, st, lb, lt, wb, wt));
+        return Ok(put_word(frame, st, lb, lt, wb, wt));
     }
     wrap_word(frame, st, lb, lt, wb, wt, out)
 }

@@ -1,6 +1,6 @@
 -- A piece, line by line, over plain lists.
 -- Assumes nothing.
-use mathlib.Core.Path.{◌≡◌, refl, sym, ap, subst, ◌∙◌}
+use mathlib.Core.Path.{◌≡◌, refl, sym, ap, ◌∙◌}
 use mathlib.Core.Option.{none}
 use mathlib.Core.List.{List, [], ◌++◌}
 use Prim.Native.Nat.{ℕ, ◌+◌, ◌-◌, ◌*◌, ◌<◌, ◌≤◌, min}
@@ -18,17 +18,11 @@ use Rattle.characters.proofs.Runs.{width_append}
 use Rattle.lines.specs.Bridge.{num, text}
 use Rattle.lines.proofs.Encoded.{scalars_right}
 use Rattle.lines.proofs.HardWrap.{piece_fits}
-use Rattle.hard_wrap.specs.Hold.{setup, Holds, Moved, Forward, StepIs, Pieced}
+use Rattle.hard_wrap.specs.Hold.{setup, Holds, Stepped, Pieced}
 use Rattle.hard_wrap.specs.declared.line.Frame.{Frame}
 use Rattle.hard_wrap.specs.declared.line.Open.{Open}
-use Rattle.hard_wrap.specs.declared.piece.Step.{Step}
-use Rattle.hard_wrap.specs.declared.piece.Step.TheVariants.{On, Stuck}
 use Rattle.hard_wrap.proofs.Turns.{text_drop}
 use Rattle.hard_wrap.proofs.Walks.{text_none}
-
--- A line of a piece after which another is open: its numbers.
-pub forward_on : {st r : Open} {m split used : ℕ} {s : Step} → s ≡ On r split used → Forward st m s → Moved st m r split used
-forward_on {st = st} {m = m} e f = subst (λ (x : Step). Forward st m x) e f
 
 -- what is left of the piece
 pub record PieceLeft (s : Setup) (d₀ : List ℕ) (base : ℕ) (b : Block) (t : Tag) (cs piece : List ℕ) (cur : Open) (wpos bpos : ℕ) (lb lt out : List ℕ) : Type 0 where
@@ -47,10 +41,9 @@ module _ (s : Setup) (d₀ : List ℕ) (base : ℕ) (b : Block) (t : Tag) (cs pi
 
   module _ (cur : Open) (wpos bpos : ℕ) (lb lt out : List ℕ) (g : PieceLeft s d₀ base b t cs piece cur wpos bpos lb lt out) where
     -- one line further
-    pub piece_turn : {r : Open} {split used : ℕ} {o : Step} → o ≡ On r split used → (lb' lt' out' : List ℕ) → StepIs s d₀ base g.next t g.q o lb' lt' out'
+    pub piece_turn : (r : Open) (split used : ℕ) (lb' lt' out' : List ℕ) → Stepped s d₀ base g.next t g.q r split used lb' lt' out'
         → PieceLeft s d₀ base b t cs piece r (wpos + used) (bpos + split) lb' lt' out'
-    piece_turn {split = split} e lb' lt' out' y =
-        let x = subst (λ (z : Step). StepIs s d₀ base g.next t g.q z lb' lt' out') e y in
+    piece_turn r split used lb' lt' out' x =
         record {
           q = x.q;
           next = x.next;
@@ -62,8 +55,8 @@ module _ (s : Setup) (d₀ : List ℕ) (base : ℕ) (b : Block) (t : Tag) (cs pi
         }
 
     -- a character that no line takes
-    pub piece_stuck : {o : Step} → o ≡ Stuck → (lb' lt' out' : List ℕ) → StepIs s d₀ base g.next t g.q o lb' lt' out' → (w : Line) → flat_hard_wrap s (text t cs ++ w) none b ≡ too_narrow
-    piece_stuck e lb' lt' out' y w = g.same w ∙ subst (λ (z : Step). StepIs s d₀ base g.next t g.q z lb' lt' out') e y w
+    pub piece_stuck : ((w : Line) → flat_hard_wrap s (text t g.q ++ w) none g.next ≡ too_narrow) → (w : Line) → flat_hard_wrap s (text t cs ++ w) none b ≡ too_narrow
+    piece_stuck y w = g.same w ∙ y w
 
     -- the rest goes on the open line
     pub piece_rest : (frame : Frame) → s ≡ setup frame → (r : Open) (lb' lt' : List ℕ) (used w : ℕ)

@@ -1,6 +1,6 @@
 -- A word, piece by piece, over plain lists.
 -- Assumes nothing.
-use mathlib.Core.Path.{◌≡◌, refl, sym, ap, ◌∙◌, subst}
+use mathlib.Core.Path.{◌≡◌, refl, sym, ap, ◌∙◌}
 use mathlib.Core.Option.{none}
 use mathlib.Core.List.{List, [], ◌∷◌, ◌++◌}
 use Prim.Native.Nat.{ℕ, suc, ◌+◌, ◌-◌, ◌*◌, ◌<◌, ◌≤◌, min}
@@ -8,6 +8,7 @@ use native.Mathlib.Numerals.{add-one}
 use native.Mathlib.Omega.{arith}
 use lib.ListN.{length, take, drop, get_or, length-drop, drop_of_length-le}
 use lib.Seq.{drop-drop, drop-cons}
+use Rattle.std.specs.Prelude.{Result, Ok, Err}
 use Rattle.fields.specs.declared.job.Setup.{Setup}
 use Rattle.block.specs.Result.{too_narrow}
 use Rattle.block.specs.Flat.{Line, Block, flat_hard_wrap}
@@ -19,8 +20,7 @@ use Rattle.lines.proofs.Encoded.{enc_none}
 use Rattle.hard_wrap.specs.Hold.{setup, Holds, Pieced, Pieces, PieceIs, Worded}
 use Rattle.hard_wrap.specs.declared.line.Frame.{Frame}
 use Rattle.hard_wrap.specs.declared.line.Open.{Open}
-use Rattle.hard_wrap.specs.declared.wrap.Wrapped.{Wrapped}
-use Rattle.hard_wrap.specs.declared.wrap.Wrapped.TheVariants.{Done, Narrow}
+use Rattle.hard_wrap.specs.declared.error.TooNarrow.{TooNarrow}
 use Rattle.hard_wrap.proofs.Fronts.{Piece, Named, piece_front, name_front}
 
 -- what is left of the word
@@ -93,21 +93,21 @@ module _ (frame : Frame) (d₀ : List ℕ) (base : ℕ) (b : Block) (w : Line) (
             same = g.same ∙ ap (λ (l : Line). flat_hard_wrap (setup frame) l none g.next) n.is;
           }
 
-      module _ (k : get_or wt at 0 < mark_tag) (r : Wrapped) (lb' lt' out' : List ℕ) (x : Pieces frame cur (take (end - at) (drop at wb)) (get_or wt at 0) lb lt out r lb' lt' out') where
+      module _ (k : get_or wt at 0 < mark_tag) where
         piece : Piece (drop at wb) (get_or wt at 0 ∷ drop (suc at) wt) g.rest (get_or wt at 0) (suc (run_t (get_or wt at 0) (drop (suc at) wt)))
         piece = piece_at wb wt same at h g.rest g.valid g.held k
 
         -- what the piece comes to
-        abbrev Comes : Wrapped → Type 0
-        Comes z = PieceIs (setup frame) d₀ base g.next piece.t piece.cs z lb' lt' out'
-
-        got : Comes r
-        got = x d₀ base g.next piece.t piece.cs g.holds piece.tag piece.ann piece.scalars (ap (λ (n : ℕ). take n (drop at wb)) (run_is wb wt same at h end e) ∙ piece.bytes)
+        comes : (r : Result Open TooNarrow) (lb' lt' out' : List ℕ) → Pieces frame cur (take (end - at) (drop at wb)) (get_or wt at 0) lb lt out r lb' lt' out'
+            → PieceIs (setup frame) d₀ base g.next piece.t piece.cs r lb' lt' out'
+        comes r lb' lt' out' x =
+            x d₀ base g.next piece.t piece.cs g.holds piece.tag piece.ann piece.scalars (ap (λ (n : ℕ). take n (drop at wb)) (run_is wb wt same at h end e) ∙ piece.bytes)
 
         -- a piece is wrapped
-        pub word_piece : (nx : Open) → r ≡ Done nx → WordLeft (setup frame) d₀ base b w wb wt nx end lb' lt' out'
-        word_piece nx q =
-            let y : Pieced (setup frame) d₀ base g.next piece.t piece.cs nx lb' lt' out' = subst Comes q got in
+        pub word_piece : (nx : Open) (lb' lt' out' : List ℕ) → Pieces frame cur (take (end - at) (drop at wb)) (get_or wt at 0) lb lt out (Ok nx) lb' lt' out'
+            → WordLeft (setup frame) d₀ base b w wb wt nx end lb' lt' out'
+        word_piece nx lb' lt' out' x =
+            let y : Pieced (setup frame) d₀ base g.next piece.t piece.cs nx lb' lt' out' = comes (Ok nx) lb' lt' out' x in
             record {
               rest = piece.more;
               next = y.next;
@@ -118,9 +118,10 @@ module _ (frame : Frame) (d₀ : List ℕ) (base : ℕ) (b : Block) (w : Line) (
             }
 
         -- a piece is too wide
-        pub word_narrow : r ≡ Narrow → flat_hard_wrap (setup frame) w none b ≡ too_narrow
-        word_narrow q =
-            let y : (v : Line) → Cut piece.t v → flat_hard_wrap (setup frame) (text piece.t piece.cs ++ v) none g.next ≡ too_narrow = subst Comes q got in
+        pub word_narrow : (n : TooNarrow) (lb' lt' out' : List ℕ) → Pieces frame cur (take (end - at) (drop at wb)) (get_or wt at 0) lb lt out (Err n) lb' lt' out'
+            → flat_hard_wrap (setup frame) w none b ≡ too_narrow
+        word_narrow n lb' lt' out' x =
+            let y : (v : Line) → Cut piece.t v → flat_hard_wrap (setup frame) (text piece.t piece.cs ++ v) none g.next ≡ too_narrow = comes (Err n) lb' lt' out' x in
             g.same ∙ ap (λ (l : Line). flat_hard_wrap (setup frame) l none g.next) piece.is ∙ y piece.more piece.cut
 
 -- ---- the loop over a word's pieces

@@ -1,6 +1,6 @@
 -- What the lent buffers, the counts and the store hold of the flat block, and the step that each function makes there.
 -- Assumes nothing: these are definitions.
-use Rattle.std.specs.Prelude.{◌≡◌, List, ◌++◌, map, ℕ, ◌+◌, ◌-◌, ◌*◌, ◌^◌, ◌<◌, ◌≤◌, min, length, replicate, if◌then◌else◌}
+use Rattle.std.specs.Prelude.{◌≡◌, List, ◌++◌, map, ℕ, ◌+◌, ◌-◌, ◌*◌, ◌^◌, ◌<◌, ◌≤◌, min, length, replicate, Result, IfOk, MatchResult, if◌then◌else◌}
 use Rattle.std.proofs.Math.Option.{none}
 use Rattle.std.proofs.lemmas.List.Edits.{sets}
 use Rattle.characters.specs.Columns.{str_width}
@@ -9,7 +9,7 @@ use Rattle.characters.proofs.RoundTrip.{Scalars}
 use Rattle.fields.specs.Spans.{lines_bytes}
 use Rattle.fields.specs.declared.job.Setup.{Setup}
 use Rattle.block.specs.Tag.{Tag}
-use Rattle.block.specs.Result.{Result, good, too_narrow}
+use Rattle.block.specs.Result.{Result as FlatResult, good, too_narrow}
 use Rattle.block.specs.Flat.{Line, Block, columns, with_line, flat_force_flush_line, flat_hard_wrap, flat_sheet_line}
 use Rattle.lines.specs.Items.{Item, item, items, zip}
 use Rattle.lines.specs.Bridge.{num, enc, Valid, text, Cut}
@@ -17,9 +17,7 @@ use Rattle.hard_wrap.specs.Walk.{Split}
 use Rattle.hard_wrap.specs.declared.line.Frame.{Frame}
 use Rattle.hard_wrap.specs.declared.line.Open.{Open}
 use Rattle.hard_wrap.specs.declared.piece.Step.{Step}
-use Rattle.hard_wrap.specs.declared.piece.Step.TheVariants.{On, Stuck}
-use Rattle.hard_wrap.specs.declared.wrap.Wrapped.{Wrapped}
-use Rattle.hard_wrap.specs.declared.wrap.Wrapped.TheVariants.{Done, Narrow}
+use Rattle.hard_wrap.specs.declared.error.TooNarrow.{TooNarrow}
 
 -- the W field that a frame was made of
 abbrev pub setup : Frame → Setup
@@ -72,9 +70,8 @@ pub record Moved (st : Open) (m : ℕ) (r : Open) (split used : ℕ) : Type 0 wh
   pub small : used < 512
 
 -- the numbers after `wrap_line`
-abbrev pub Forward : Open → ℕ → Step → Type 0
-Forward st m Stuck = Unit {0}
-Forward st m (On r split used) = Moved st m r split used
+abbrev pub Forward : Open → ℕ → Result Step TooNarrow → Type 0
+Forward st m r = IfOk r (λ x. Moved st m x.st x.split x.used)
 
 -- after m bytes of a word: each byte may close two lines, and a line with columns one more
 pub record WordGrown (frame : Frame) (st : Open) (m : ℕ) (r : Open) : Type 0 where
@@ -84,9 +81,8 @@ pub record WordGrown (frame : Frame) (st : Open) (m : ℕ) (r : Open) : Type 0 w
   pub lines : r.lines ≤ r.place
 
 -- the numbers after `wrap_piece` and `hard_wrap`
-abbrev pub Grows : Frame → Open → ℕ → Wrapped → Type 0
-Grows frame st m Narrow = Unit {0}
-Grows frame st m (Done r) = WordGrown frame st m r
+abbrev pub Grows : Frame → Open → ℕ → Result Open TooNarrow → Type 0
+Grows frame st m r = IfOk r (λ x. WordGrown frame st m x)
 
 -- ---- steps
 
@@ -123,12 +119,12 @@ pub record Stepped (s : Setup) (d₀ : List ℕ) (base : ℕ) (b : Block) (t : T
   pub same : (w : Line) → flat_hard_wrap s (text t cs ++ w) none b ≡ flat_hard_wrap s (text t q ++ w) none next
 
 -- what `wrap_line` answers
-abbrev pub StepIs : Setup → List ℕ → ℕ → Block → Tag → List ℕ → Step → List ℕ → List ℕ → List ℕ → Type 0
-StepIs s d₀ base b t cs Stuck lb lt out = (w : Line) → flat_hard_wrap s (text t cs ++ w) none b ≡ too_narrow
-StepIs s d₀ base b t cs (On r split used) lb lt out = Stepped s d₀ base b t cs r split used lb lt out
+abbrev pub StepIs : Setup → List ℕ → ℕ → Block → Tag → List ℕ → Result Step TooNarrow → List ℕ → List ℕ → List ℕ → Type 0
+StepIs s d₀ base b t cs r lb lt out =
+    MatchResult r (λ x. Stepped s d₀ base b t cs x.st x.split x.used lb lt out) (λ _. (w : Line) → flat_hard_wrap s (text t cs ++ w) none b ≡ too_narrow)
 
 -- the step that `wrap_line` makes at the place where the walk over the characters stopped, where the rest of the piece does not fit
-abbrev pub WrapsLine : Frame → Open → List ℕ → ℕ → ℕ → ℕ → List ℕ → List ℕ → List ℕ → Step → List ℕ → List ℕ → List ℕ → Type 0
+abbrev pub WrapsLine : Frame → Open → List ℕ → ℕ → ℕ → ℕ → List ℕ → List ℕ → List ℕ → Result Step TooNarrow → List ℕ → List ℕ → List ℕ → Type 0
 WrapsLine frame st rest split used tag lb lt out r lb' lt' out' =
     (d₀ : List ℕ) (base : ℕ) (b : Block) (t : Tag) (cs : List ℕ) → Holds d₀ base b st lb lt out → tag ≡ num t → t.ann < 256 → Scalars cs → rest ≡ text_bytes cs → frame.width < st.cols + str_width cs
     → Split (frame.width - st.cols) cs split used → StepIs (setup frame) d₀ base b t cs r lb' lt' out'
@@ -140,29 +136,28 @@ pub record Pieced (s : Setup) (d₀ : List ℕ) (base : ℕ) (b : Block) (t : Ta
   pub same : (w : Line) → Cut t w → flat_hard_wrap s (text t cs ++ w) none b ≡ flat_hard_wrap s w none next
 
 -- what `wrap_piece` answers
-abbrev pub PieceIs : Setup → List ℕ → ℕ → Block → Tag → List ℕ → Wrapped → List ℕ → List ℕ → List ℕ → Type 0
-PieceIs s d₀ base b t cs Narrow lb lt out = (w : Line) → Cut t w → flat_hard_wrap s (text t cs ++ w) none b ≡ too_narrow
-PieceIs s d₀ base b t cs (Done r) lb lt out = Pieced s d₀ base b t cs r lb lt out
+abbrev pub PieceIs : Setup → List ℕ → ℕ → Block → Tag → List ℕ → Result Open TooNarrow → List ℕ → List ℕ → List ℕ → Type 0
+PieceIs s d₀ base b t cs r lb lt out =
+    MatchResult r (λ x. Pieced s d₀ base b t cs x lb lt out) (λ _. (w : Line) → Cut t w → flat_hard_wrap s (text t cs ++ w) none b ≡ too_narrow)
 
 -- the step that `wrap_piece` makes
-abbrev pub Pieces : Frame → Open → List ℕ → ℕ → List ℕ → List ℕ → List ℕ → Wrapped → List ℕ → List ℕ → List ℕ → Type 0
+abbrev pub Pieces : Frame → Open → List ℕ → ℕ → List ℕ → List ℕ → List ℕ → Result Open TooNarrow → List ℕ → List ℕ → List ℕ → Type 0
 Pieces frame st piece tag lb lt out r lb' lt' out' =
     (d₀ : List ℕ) (base : ℕ) (b : Block) (t : Tag) (cs : List ℕ) → Holds d₀ base b st lb lt out → tag ≡ num t → t.ann < 256 → Scalars cs → piece ≡ text_bytes cs
     → PieceIs (setup frame) d₀ base b t cs r lb' lt' out'
 
 -- a whole word
-pub record Worded (o : Result Block) (d₀ : List ℕ) (base : ℕ) (r : Open) (lb lt out : List ℕ) : Type 0 where
+pub record Worded (o : FlatResult Block) (d₀ : List ℕ) (base : ℕ) (r : Open) (lb lt out : List ℕ) : Type 0 where
   pub next : Block
   pub is : o ≡ good next
   pub holds : Holds d₀ base next r lb lt out
 
 -- what `hard_wrap` answers
-abbrev pub WordIs : Result Block → List ℕ → ℕ → Wrapped → List ℕ → List ℕ → List ℕ → Type 0
-WordIs o d₀ base Narrow lb lt out = o ≡ too_narrow
-WordIs o d₀ base (Done r) lb lt out = Worded o d₀ base r lb lt out
+abbrev pub WordIs : FlatResult Block → List ℕ → ℕ → Result Open TooNarrow → List ℕ → List ℕ → List ℕ → Type 0
+WordIs o d₀ base r lb lt out = MatchResult r (λ x. Worded o d₀ base x lb lt out) (λ _. o ≡ too_narrow)
 
 -- the step that `hard_wrap` makes
-abbrev pub Wraps : Frame → Open → List ℕ → List ℕ → List ℕ → List ℕ → List ℕ → Wrapped → List ℕ → List ℕ → List ℕ → Type 0
+abbrev pub Wraps : Frame → Open → List ℕ → List ℕ → List ℕ → List ℕ → List ℕ → Result Open TooNarrow → List ℕ → List ℕ → List ℕ → Type 0
 Wraps frame st wb wt lb lt out r lb' lt' out' =
     (d₀ : List ℕ) (base : ℕ) (b : Block) (w : Line) → Holds d₀ base b st lb lt out → Valid w → zip wb wt ≡ enc w
     → WordIs (flat_hard_wrap (setup frame) w none b) d₀ base r lb' lt' out'

@@ -11,7 +11,7 @@ use characters::plain::{Plain, plain_run};
 use characters::utf8::{Decoded, decode};
 
 // A character's bytes and columns.
-#[derive(Clone, Copy)]
+#[derive(Clone, Copy, Debug, PartialEq, Eq)]
 pub struct Shape {
     pub len: usize,
     pub cols: usize,

@@ -7,7 +7,7 @@ use lines::buffer::push_blanks;
 use lines::encode::encode_line;
 
 // What a W field says of the block, the default annotation as a tag.
-#[derive(Clone, Copy)]
+#[derive(Clone, Copy, Debug, PartialEq, Eq)]
 pub struct Frame {
     pub width: usize,
     pub pad: bool,
@@ -16,7 +16,7 @@ pub struct Frame {
 }
 
 // The open line's bytes and columns, the place in the store past the closed lines, and their number.
-#[derive(Clone, Copy)]
+#[derive(Clone, Copy, Debug, PartialEq, Eq)]
 pub struct Open {
     pub n: usize,
     pub cols: usize,

@@ -4,17 +4,18 @@
 ghost use Rattle.std.specs.Prelude.{◌+◌, ◌-◌, ◌*◌, ◌^◌, ◌≤◌, ◌<◌, length};
 ghost use Rattle.hard_wrap.specs.Hold.{Longer, PutsText, Room, Emptied, ClosesWith, Forward, WrapsLine, Grows, Pieces};
 
+use crate::error::TooNarrow;
 use crate::glyph::{glyph, plain_within, width_of};
 use crate::line::{Frame, Open, force_flush_line};
 use crate::numbers::less;
-use crate::wrap::Wrapped;
 use lines::buffer::push_text;
 
-// What a line of a piece comes to: the next line is open, so many bytes and columns on; or `TooNarrow`.
-#[derive(Clone, Copy)]
-enum Step {
-    On { st: Open, split: usize, used: usize },
-    Stuck,
+// The open line after a line of a piece, and how many bytes and columns of the piece went on that one.
+#[derive(Clone, Copy, Debug, PartialEq, Eq)]
+struct Step {
+    st: Open,
+    split: usize,
+    used: usize,
 }
 
 // Bytes of one tag, of so many columns, go on the line (`push`).
@@ -63,7 +64,7 @@ fn wrap_line(
     used: usize,
     tag: u32,
     out: &mut [u8],
-) -> Step
+) -> Result<Step, TooNarrow>
     requires room { Room frame st (length rest.now) 1 (length lb.old) (length lt.old) }
     requires cols_le_width { (st.cols ≤ frame.width) × (0 < length rest.now) × (split ≤ length rest.now) × (used ≤ frame.width - st.cols) }
     ensures forward { Forward st (length rest.now) result }
@@ -74,21 +75,21 @@ fn wrap_line(
             if frame.overflow {
                 let g = glyph(rest);
                 let next = close_with(frame, st, lb, lt, &rest[..g.len], g.cols, tag, out);
-                return Step::On {
+                return Ok(Step {
                     st: next,
                     split: g.len,
                     used: g.cols,
-                };
+                });
             }
-            return Step::Stuck;
+            return Err(TooNarrow);
         }
     }
     let next = close_with(frame, st, lb, lt, &rest[..split], used, tag, out);
-    Step::On {
+    Ok(Step {
         st: next,
         split,
         used,
-    }
+    })
 }
 
 // A piece: while what is left of it does not fit, its characters are walked up to the first that does not and the line is closed there;
@@ -101,7 +102,7 @@ pub fn wrap_piece(
     piece: &[u8],
     tag: u32,
     out: &mut [u8],
-) -> Wrapped
+) -> Result<Open, TooNarrow>
     requires room { Room frame st (length piece.now) (2 * length piece.now + 1) (length lb.old) (length lt.old) }
     requires cols_le_width { st.cols ≤ frame.width }
     ensures grows { Grows frame st (length piece.now) result }
@@ -131,19 +132,14 @@ pub fn wrap_piece(
             used += g.cols;
             idx = next;
         };
-        let step = wrap_line(frame, cur, lb, lt, rest, split, used, tag, out);
-        match step {
-            Step::On { st, split, used } => {
-                cur = st;
-                bpos += split;
-                wpos += used;
-            }
-            Step::Stuck => return Wrapped::Narrow,
-        }
+        let step = wrap_line(frame, cur, lb, lt, rest, split, used, tag, out)?;
+        cur = step.st;
+        bpos += step.split;
+        wpos += step.used;
     }
     if bpos < piece.len() {
         let used = less(w, wpos);
-        return Wrapped::Done(put_text(cur, lb, lt, &piece[bpos..], used, tag));
+        return Ok(put_text(cur, lb, lt, &piece[bpos..], used, tag));
     }
-    Wrapped::Done(cur)
+    Ok(cur)
 }

@@ -2,18 +2,12 @@
 ghost use Rattle.std.specs.Prelude.{◌≡◌, ◌+◌, ◌*◌, ◌≤◌, length};
 ghost use Rattle.hard_wrap.specs.Hold.{Room, Grows, Wraps};
 
+use crate::error::TooNarrow;
 use crate::line::{Frame, Open};
 use crate::piece::wrap_piece;
 use lines::encode::{MARK, run_end};
 
-// What a piece or a word comes to: the open line after it, or `TooNarrow`.
-#[derive(Clone, Copy)]
-pub enum Wrapped {
-    Done(Open),
-    Narrow,
-}
-
-// The word, piece by piece; its names are dropped.
+// The open line after the word, which is wrapped piece by piece; its names are dropped.
 pub fn hard_wrap(
     frame: Frame,
     st: Open,
@@ -22,7 +16,7 @@ pub fn hard_wrap(
     wb: &[u8],
     wt: &[u32],
     out: &mut [u8],
-) -> Wrapped
+) -> Result<Open, TooNarrow>
     requires room { Room frame st (length wb.now) (2 * length wb.now + 2) (length lb.old) (length lt.old) }
     requires cols_le_width { (st.cols ≤ frame.width) × (length wb.now ≡ length wt.now) }
     ensures grows { Grows frame st (length wb.now) result }
@@ -34,17 +28,9 @@ pub fn hard_wrap(
         let tag = wt[at];
         let end = run_end(wt, at);
         if tag < MARK {
-            let done = wrap_piece(frame, cur, lb, lt, &wb[at..end], tag, out);
-            match done {
-                Wrapped::Done(next) => {
-                    cur = next;
-                }
-                Wrapped::Narrow => {
-                    return Wrapped::Narrow;
-                }
-            }
+            cur = wrap_piece(frame, cur, lb, lt, &wb[at..end], tag, out)?;
         }
         at = end;
     }
-    Wrapped::Done(cur)
+    Ok(cur)
 }

@@ -9,6 +9,8 @@ use native.Mathlib.Omega.{arith}
 use lib.Dec.{eqb}
 use lib.ListN.{length, take, drop, get_or, length-drop}
 use borrow.Author.Tests.{eqb-true, eqb-false}
+use Rattle.std.specs.Prelude.{Result, Ok, Err, IsErr}
+use Rattle.std.proofs.lemmas.Result.{MatchResult-from_err}
 use Rattle.characters.specs.Utf8.{chars}
 use Rattle.characters.proofs.Tests.{by_if, and_left, and_right}
 use Rattle.fields.specs.Field.{whole, broken, raws}
@@ -20,13 +22,12 @@ use Rattle.fields.proofs.Texts.{rest}
 use Rattle.block.specs.Flat.{Block, flat_add_element, flat_add_field, flat_add_fields}
 use Rattle.lines.specs.Bridge.{mode_no}
 use Rattle.hard_wrap.specs.Hold.{setup}
+use Rattle.hard_wrap.specs.declared.error.TooNarrow.{TooNarrow}
 use Rattle.hard_wrap.specs.declared.line.Frame.{Frame}
 use Rattle.flush_word.specs.Keep.{Keeps, CountsWithinUnits}
 use Rattle.flush_word.specs.declared.state.State.{State}
-use Rattle.flush_word.specs.declared.state.Flushed.{Flushed}
-use Rattle.flush_word.specs.declared.state.Flushed.TheVariants.{Done, Narrow}
 use Rattle.add_chars.specs.Chars.{AddsElement}
-use Rattle.add_text.specs.Walks.{RunSmall, RunIs, TextSmall, AddsText}
+use Rattle.add_text.specs.Walks.{RunSmall, RunIs, AddsText}
 use Rattle.add_text.specs.declared.text.Run.{Run}
 use Rattle.render.specs.Render.{run_of, AddsField, AddsFields}
 
@@ -85,18 +86,18 @@ text_bytes_lem l s e h m = ap length (rest s 3) ∙ length-drop 3 s ∙ text_uni
 
 module _ (frame : Frame) (st : State) (l : ℕ) (s lb lt wb wt out : List ℕ) where
   -- A name.
-  pub adds_name : (r : State) (wb' wt' : List ℕ) → l ≡ 0x46 → AddsElement st s wb wt r wb' wt' → AddsField frame st l s lb lt wb wt out (Done r) lb lt wb' wt' out
+  pub adds_name : (r : State) (wb' wt' : List ℕ) → l ≡ 0x46 → AddsElement st s wb wt r wb' wt' → AddsField frame st l s lb lt wb wt out (Ok r) lb lt wb' wt' out
   unfolding flat_add_field
   adds_name r wb' wt' e a d₀ base b k read =
       rw (name_read l s e) (record { block = flat_add_element s b; is = refl; keeps = a d₀ base b lb lt out k })
 
   -- What is neither changes nothing.
-  pub adds_nothing : read_field (whole l s) ≡ wrong → AddsField frame st l s lb lt wb wt out (Done st) lb lt wb wt out
+  pub adds_nothing : read_field (whole l s) ≡ wrong → AddsField frame st l s lb lt wb wt out (Ok st) lb lt wb wt out
   unfolding flat_add_field
   adds_nothing e d₀ base b k read = rw e (record { block = b; is = refl; keeps = k })
 
   -- A text.
-  pub adds_text : (run : Run) (r : Flushed) (lb' lt' wb' wt' out' : List ℕ) → l ≡ 0x54 → 3 ≤ length s → get_or s 0 0 ≤ 2
+  pub adds_text : (run : Run) (r : Result State TooNarrow) (lb' lt' wb' wt' out' : List ℕ) → l ≡ 0x54 → 3 ≤ length s → get_or s 0 0 ≤ 2
       → run ≡ run_of (get_or s 0 0) (get_or s 1 0) (get_or s 2 0) → AddsText frame run st (take (length s - 3) (drop 3 s)) lb lt wb wt out r lb' lt' wb' wt' out'
       → AddsField frame st l s lb lt wb wt out r lb' lt' wb' wt' out'
   unfolding flat_add_field
@@ -151,13 +152,13 @@ module _ (frame : Frame) (st : State) (body lb₀ lt₀ wb₀ wt₀ out₀ : Lis
 
   module _ (cur : State) (at : ℕ) (lb lt wb wt out : List ℕ) (a : Added frame st body lb₀ lt₀ wb₀ wt₀ out₀ cur at lb lt wb wt out) where
     -- At the end of the fields, or at a rest that is no field, all are added.
-    pub added_end : raws (drop at body) ≡ [] → AddsFields frame st body lb₀ lt₀ wb₀ wt₀ out₀ (Done cur) lb lt wb wt out
+    pub added_end : raws (drop at body) ≡ [] → AddsFields frame st body lb₀ lt₀ wb₀ wt₀ out₀ (Ok cur) lb lt wb wt out
     unfolding flat_add_fields
     added_end e d₀ base b k read =
         let g = a.left d₀ base b k read in
         record { block = g.block; is = g.same ∙ rw e; keeps = g.keeps }
 
-    pub added_broken : raws (drop at body) ≡ broken ∷ [] → AddsFields frame st body lb₀ lt₀ wb₀ wt₀ out₀ (Done cur) lb lt wb wt out
+    pub added_broken : raws (drop at body) ≡ broken ∷ [] → AddsFields frame st body lb₀ lt₀ wb₀ wt₀ out₀ (Ok cur) lb lt wb wt out
     unfolding flat_add_fields flat_add_field read_field
     added_broken e d₀ base b k read =
         let g = a.left d₀ base b k read in
@@ -182,8 +183,8 @@ module _ (frame : Frame) (st : State) (body lb₀ lt₀ wb₀ wt₀ out₀ : Lis
       -- One field more.
       pub added_on : (more : State) (lb' lt' wb' wt' out' : List ℕ)
           → (length lb' ≡ length lb₀) × (length lt' ≡ length lt₀) × (length wb' ≡ length wb₀) × (length wt' ≡ length wt₀) × (length out' ≡ length out₀)
-          → TextSmall frame (cur.used + field_units (whole letter (content_of body start next))) (Done more)
-          → AddsField frame cur letter (content_of body start next) lb lt wb wt out (Done more) lb' lt' wb' wt' out'
+          → CountsWithinUnits frame more × (more.used ≤ cur.used + field_units (whole letter (content_of body start next)))
+          → AddsField frame cur letter (content_of body start next) lb lt wb wt out (Ok more) lb' lt' wb' wt' out'
           → Added frame st body lb₀ lt₀ wb₀ wt₀ out₀ more next lb' lt' wb' wt' out'
       unfolding flat_add_fields
       added_on more lb' lt' wb' wt' out' n s w =
@@ -204,9 +205,9 @@ module _ (frame : Frame) (st : State) (body lb₀ lt₀ wb₀ wt₀ out₀ : Lis
           }
 
       -- A field that does not fit.
-      pub added_narrow : AddsField frame cur letter (content_of body start next) lb lt wb wt out Narrow lb lt wb wt out
-          → AddsFields frame st body lb₀ lt₀ wb₀ wt₀ out₀ Narrow lb lt wb wt out
+      pub added_narrow : (n : TooNarrow) (r : Result State TooNarrow) (lb' lt' wb' wt' out' : List ℕ) → AddsField frame cur letter (content_of body start next) lb lt wb wt out (Err n) lb lt wb wt out → IsErr r
+          → AddsFields frame st body lb₀ lt₀ wb₀ wt₀ out₀ r lb' lt' wb' wt' out'
       unfolding flat_add_fields
-      added_narrow w d₀ base b k read =
+      added_narrow n r lb' lt' wb' wt' out' w h d₀ base b k read =
           let g = a.left d₀ base b k read in
-          g.same ∙ rw (f.fields, w d₀ base g.block g.keeps (both_read g.read).0)
+          MatchResult-from_err r _ _ h (λ _. g.same ∙ rw (f.fields, w d₀ base g.block g.keeps (both_read g.read).0))

@@ -6,6 +6,7 @@ use mathlib.Core.List.{List, [], ◌∷◌, map}
 use Prim.Native.Nat.{ℕ, zero, suc, ◌+◌, ◌-◌, ◌*◌, ◌≤◌, ◌<◌}
 use native.Mathlib.Omega.{arith}
 use lib.ListN.{length, take, drop, get_or, length-map}
+use Rattle.std.specs.Prelude.{Ok, Err}
 use Rattle.fields.specs.Field.{raws}
 use Rattle.fields.specs.First.{refusal_of}
 use Rattle.fields.specs.Job.{JobField, read_field, head_of, rest_of, units, body_units}
@@ -23,10 +24,10 @@ use Rattle.block.proofs.Bounds.{few_lines}
 use Rattle.block.proofs.Equal.{answer_same}
 use Rattle.block.proofs.Lines.{on_ended}
 use Rattle.block.proofs.FlatAnswer.{flat_judged, flat_verdict_of, flat_verdict, flat_answer, Passes, passes}
+use Rattle.hard_wrap.specs.declared.error.TooNarrow.{TooNarrow}
 use Rattle.hard_wrap.specs.declared.line.Frame.{Frame}
 use Rattle.render.specs.Render.{frame_of, FrameSmall, WrapsUp}
 use Rattle.render.specs.declared.sheet.End.{End}
-use Rattle.render.specs.declared.sheet.Lines.TheVariants.{Closed, Narrow}
 
 -- ---- a job that is refused
 
@@ -99,7 +100,7 @@ module _ (job : List ℕ) (s : Setup) (g : Good job s) where
 
   -- The lines are in the store and the names behind them, and the head goes in front, or the store is too short.
   pub answers_sheet : (frame : Frame) (end : End) (r : Rendered) (store mid store' : List ℕ) → frame ≡ frame_of s
-      → WrapsUp frame (body_of job) store (Closed end) mid → Finishes end.place end.lines mid r store' → rendered r store' ≡ render_answer job store
+      → WrapsUp frame (body_of job) store (Ok end) mid → Finishes end.place end.lines mid r store' → rendered r store' ≡ render_answer job store
   unfolding flat_judged give
   answers_sheet frame end r store mid store' e up finish =
       let x = rw e at up g.passed.read in
@@ -108,9 +109,9 @@ module _ (job : List ℕ) (s : Setup) (g : Good job s) where
       rw (answer_ended store, x.is) (finish store (map flat_sheet_line ls) x.ended.names [] x.stands (rw length-map (omega arith)))
 
   -- A word is too wide for the block: refusal 5.
-  pub answers_narrow : (frame : Frame) (store mid : List ℕ) → frame ≡ frame_of s → WrapsUp frame (body_of job) store Narrow mid
+  pub answers_narrow : (n : TooNarrow) (frame : Frame) (store mid : List ℕ) → frame ≡ frame_of s → WrapsUp frame (body_of job) store (Err n) mid
       → length mid ≡ length store → give (refused 5) mid ≡ render_answer job store
   unfolding flat_judged give
-  answers_narrow frame store mid e up same =
+  answers_narrow n frame store mid e up same =
       let x = rw e at up g.passed.read in
       rw (answer_ended store, x, same)

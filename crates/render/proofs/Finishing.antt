@@ -7,14 +7,15 @@ use Prim.Native.Nat.{ℕ, ◌+◌}
 use native.Mathlib.Omega.{arith}
 use lib.Dec.{leb}
 use lib.ListN.{length-map}
-use Rattle.std.specs.Prelude.{if◌then◌else◌}
+use Rattle.std.proofs.lemmas.Result.{MatchResult-from_err}
+use Rattle.std.specs.Prelude.{Result, Ok, Err, IsErr, if◌then◌else◌}
 use Rattle.characters.proofs.Tests.{by_if}
 use Rattle.fields.specs.Spans.{RenderLine, lines_bytes, overhang_bytes, names_bytes, body_bytes}
 use Rattle.fields.specs.Store.{Wrote}
 use Rattle.fields.specs.declared.job.Setup.{Setup}
 use Rattle.fields.proofs.Sets.{wrote_then}
-use Rattle.block.specs.Result.{good, too_narrow, OnGood}
-use Rattle.block.specs.Flat.{Line, Block, columns, has_text, new, with_wrapped, left, put_word, wrap_word, flat_flush_line, flat_flush_word, names_in, ended, flat_flush_wrapping, wrapped_up, flat_sheet_line}
+use Rattle.block.specs.Result.{good, OnGood}
+use Rattle.block.specs.Flat.{Line, Block, columns, has_text, new, with_wrapped, left, put_word, wrap_word, flat_flush_line, flat_flush_word, names_in, ended, wrapped_up, flat_sheet_line}
 use Rattle.block.proofs.Left.{ends_flat}
 use Rattle.block.proofs.NonSpaces.{trims_new, texted}
 use Rattle.block.proofs.Results.{good_map}
@@ -25,15 +26,13 @@ use Rattle.lines.specs.Encode.{content}
 use Rattle.lines.proofs.Encoded.{names_bytes_lem}
 use Rattle.hard_wrap.specs.Hold.{setup}
 use Rattle.hard_wrap.specs.Steps.{Flushes}
+use Rattle.hard_wrap.specs.declared.error.TooNarrow.{TooNarrow}
 use Rattle.hard_wrap.specs.declared.line.Frame.{Frame}
 use Rattle.hard_wrap.specs.declared.line.Open.{Open}
 use Rattle.flush_word.specs.Keep.{Keeps, CountsWithinUnits, FlushesWord}
 use Rattle.flush_word.specs.declared.state.State.{State}
-use Rattle.flush_word.specs.declared.state.Flushed.TheVariants as flushed
 use Rattle.render.specs.Render.{AddsFields, new_state, FlushesWrapping, WrapsUp}
 use Rattle.render.specs.declared.sheet.End.{End}
-use Rattle.render.specs.declared.sheet.Lines.{Lines}
-use Rattle.render.specs.declared.sheet.Lines.TheVariants.{Closed, Narrow}
 
 -- ---- the block at its start
 
@@ -93,9 +92,9 @@ behind d₀ ls w is e v t lines names =
 module _ (frame : Frame) (st : State) (lb lt wb wt out : List ℕ) where
   -- The last word is flushed, a line with text, and the names left in the word are put behind the lines; the lines alone are counted.
   pub flushes_done : (last : State) (o : Open) (end : End) {lb' lt' out' lb'' lt'' out'' : List ℕ} (out''' : List ℕ)
-      → FlushesWord frame st lb lt wb wt out (flushed.Done last) lb' lt' out' → Flushes frame last.line lb' lt' out' o lb'' lt'' out''
+      → FlushesWord frame st lb lt wb wt out (Ok last) lb' lt' out' → Flushes frame last.line lb' lt' out' o lb'' lt'' out''
       → Wrote out'' o.place (content (items wb wt last.word.n)) out''' end.place → end.lines ≡ o.lines
-      → FlushesWrapping frame st lb lt wb wt out (Closed end) out'''
+      → FlushesWrapping frame st lb lt wb wt out (Ok end) out'''
   flushes_done last o end out''' w f p e d₀ b k =
       let n = w d₀ 5 b k in
       let c = n.block in
@@ -109,13 +108,14 @@ module _ (frame : Frame) (st : State) (lb lt wb wt out : List ℕ) where
         stands = record { store = all.store; place = all.place; lines = e ∙ h.lines ∙ sym (length-map ls flat_sheet_line) };
       }
 
--- A last word that is too wide for the block.
-pub flushes_narrow : (s : Setup) (b : Block) → flat_flush_word s b ≡ too_narrow → flat_flush_wrapping s b ≡ too_narrow
-flushes_narrow s b e = ends_flat s b ∙ rw e
+  -- A last word that is too wide for the block.
+  pub flushes_narrow : (n : TooNarrow) (r : Result End TooNarrow) (out' : List ℕ) → FlushesWord frame st lb lt wb wt out (Err n) lb lt out → IsErr r
+      → FlushesWrapping frame st lb lt wb wt out r out'
+  flushes_narrow n r out' w h d₀ b k = MatchResult-from_err r _ _ h (λ _. ends_flat (setup frame) b ∙ rw (w d₀ 5 b k))
 
 module _ (frame : Frame) (body lb lt wb wt out : List ℕ) (st : State) (fresh : st ≡ new_state) where
   -- The fields of a body, and then the end of the block.
-  pub wraps_done : (next : State) (r : Lines) {lb' lt' wb' wt' out' : List ℕ} (out'' : List ℕ) → AddsFields frame st body lb lt wb wt out (flushed.Done next) lb' lt' wb' wt' out'
+  pub wraps_done : (next : State) (r : Result End TooNarrow) {lb' lt' wb' wt' out' : List ℕ} (out'' : List ℕ) → AddsFields frame st body lb lt wb wt out (Ok next) lb' lt' wb' wt' out'
       → FlushesWrapping frame next lb' lt' wb' wt' out' r out'' → WrapsUp frame body out r out''
   unfolding wrapped_up
   wraps_done next r out'' a f read =
@@ -123,6 +123,7 @@ module _ (frame : Frame) (body lb lt wb wt out : List ℕ) (st : State) (fresh :
       rw n.is (f out n.block n.keeps)
 
   -- A field that does not fit.
-  pub wraps_narrow : AddsFields frame st body lb lt wb wt out flushed.Narrow lb lt wb wt out → WrapsUp frame body out Narrow out
+  pub wraps_narrow : (n : TooNarrow) (r : Result End TooNarrow) (out' : List ℕ) → AddsFields frame st body lb lt wb wt out (Err n) lb lt wb wt out → IsErr r
+      → WrapsUp frame body out r out'
   unfolding wrapped_up
-  wraps_narrow a read = rw (a out 5 new (rw fresh (keeps_new lb lt wb wt out)) read)
+  wraps_narrow n r out' a h read = MatchResult-from_err r _ _ h (λ _. rw (a out 5 new (rw fresh (keeps_new lb lt wb wt out)) read))

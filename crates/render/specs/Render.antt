@@ -1,21 +1,19 @@
 -- The steps of the call from a job to its sheet: a field, the fields, and the block's lines in the store with the names that wait.
 -- Assumes nothing: these are definitions.
-use Rattle.std.specs.Prelude.{◌≡◌, false, true, List, [], map, ℕ, ◌<◌}
+use Rattle.std.specs.Prelude.{◌≡◌, false, true, List, [], map, ℕ, ◌<◌, Result, MatchResult}
 use Rattle.fields.specs.Field.{whole, raws}
 use Rattle.fields.specs.Job.{read_field, readable, all_readable}
 use Rattle.fields.specs.Answer.{Stands}
 use Rattle.fields.specs.declared.job.Setup.{Setup}
-use Rattle.block.specs.Result.{Result, good, too_narrow}
+use Rattle.block.specs.Result.{Result as FlatResult, good, too_narrow}
 use Rattle.block.specs.Flat.{Block, Ended, flat_flush_wrapping, flat_add_field, flat_add_fields, wrapped_up, flat_sheet_line}
 use Rattle.hard_wrap.specs.Hold.{setup}
+use Rattle.hard_wrap.specs.declared.error.TooNarrow.{TooNarrow}
 use Rattle.hard_wrap.specs.declared.line.Frame.{Frame}
 use Rattle.flush_word.specs.Keep.{no_word, no_blanks, Keeps, ResultIs}
 use Rattle.flush_word.specs.declared.state.State.{State}
-use Rattle.flush_word.specs.declared.state.Flushed.{Flushed}
 use Rattle.add_text.specs.declared.text.Run.{Run}
 use Rattle.render.specs.declared.sheet.End.{End}
-use Rattle.render.specs.declared.sheet.Lines.{Lines}
-use Rattle.render.specs.declared.sheet.Lines.TheVariants.{Closed, Narrow}
 
 -- what never changes in the block, from the W field
 abbrev pub frame_of : Setup → Frame
@@ -27,12 +25,12 @@ run_of m a c = record { mode = m; main = a; wrap = c }
 
 -- ---- fields
 
-abbrev pub AddsField : Frame → State → ℕ → List ℕ → List ℕ → List ℕ → List ℕ → List ℕ → List ℕ → Flushed → List ℕ → List ℕ → List ℕ → List ℕ → List ℕ → Type 0
+abbrev pub AddsField : Frame → State → ℕ → List ℕ → List ℕ → List ℕ → List ℕ → List ℕ → List ℕ → Result State TooNarrow → List ℕ → List ℕ → List ℕ → List ℕ → List ℕ → Type 0
 AddsField frame st letter content lb lt wb wt out r lb' lt' wb' wt' out' =
     (d₀ : List ℕ) (base : ℕ) (b : Block) → Keeps d₀ base b st lb lt wb wt out → readable (read_field (whole letter content)) ≡ true
     → ResultIs (flat_add_field (setup frame) (read_field (whole letter content)) b) d₀ base r lb' lt' wb' wt' out'
 
-abbrev pub AddsFields : Frame → State → List ℕ → List ℕ → List ℕ → List ℕ → List ℕ → List ℕ → Flushed → List ℕ → List ℕ → List ℕ → List ℕ → List ℕ → Type 0
+abbrev pub AddsFields : Frame → State → List ℕ → List ℕ → List ℕ → List ℕ → List ℕ → List ℕ → Result State TooNarrow → List ℕ → List ℕ → List ℕ → List ℕ → List ℕ → Type 0
 AddsFields frame st body lb lt wb wt out r lb' lt' wb' wt' out' =
     (d₀ : List ℕ) (base : ℕ) (b : Block) → Keeps d₀ base b st lb lt wb wt out → all_readable (map read_field (raws body)) ≡ true
     → ResultIs (flat_add_fields (setup frame) (map read_field (raws body)) b) d₀ base r lb' lt' wb' wt' out'
@@ -50,21 +48,20 @@ pub record FrameSmall (frame : Frame) : Type 0 where
   pub default : frame.default_tag < 256
 
 -- what the end of a block is in the store
-pub record Closed-is (r : Result Ended) (d₀ : List ℕ) (e : End) (out : List ℕ) : Type 0 where
+pub record Closed-is (r : FlatResult Ended) (d₀ : List ℕ) (e : End) (out : List ℕ) : Type 0 where
   pub ended : Ended
   pub is : r ≡ good ended
   pub stands : Stands (map flat_sheet_line ended.lines) ended.names [] d₀ e.place e.lines out
 
-abbrev pub LinesAre : Result Ended → List ℕ → Lines → List ℕ → Type 0
-LinesAre r d₀ (Closed e) out = Closed-is r d₀ e out
-LinesAre r d₀ Narrow out = r ≡ too_narrow
+abbrev pub LinesAre : FlatResult Ended → List ℕ → Result End TooNarrow → List ℕ → Type 0
+LinesAre r d₀ e out = MatchResult e (λ x. Closed-is r d₀ x out) (λ _. r ≡ too_narrow)
 
 -- `flush_wrapping` of a block whose lines stand from 5 on
-abbrev pub FlushesWrapping : Frame → State → List ℕ → List ℕ → List ℕ → List ℕ → List ℕ → Lines → List ℕ → Type 0
+abbrev pub FlushesWrapping : Frame → State → List ℕ → List ℕ → List ℕ → List ℕ → List ℕ → Result End TooNarrow → List ℕ → Type 0
 FlushesWrapping frame st lb lt wb wt out r out' =
     (d₀ : List ℕ) (b : Block) → Keeps d₀ 5 b st lb lt wb wt out → LinesAre (flat_flush_wrapping (setup frame) b) d₀ r out'
 
 -- the lines of a job's body, and the names that wait, in the store from 5 on
-abbrev pub WrapsUp : Frame → List ℕ → List ℕ → Lines → List ℕ → Type 0
+abbrev pub WrapsUp : Frame → List ℕ → List ℕ → Result End TooNarrow → List ℕ → Type 0
 WrapsUp frame body out r out' =
     all_readable (map read_field (raws body)) ≡ true → LinesAre (wrapped_up (setup frame) (map read_field (raws body))) out r out'

@@ -9,7 +9,8 @@ ghost use Rattle.render.specs.Render.{run_of, AddsField, AddsFields};
 use add_chars::chars::add_element;
 use add_text::text::{Run, add_text};
 use fields::field::{Field, field_at};
-use flush_word::state::{Flushed, State};
+use flush_word::state::State;
+use hard_wrap::error::TooNarrow;
 use hard_wrap::line::Frame;
 
 // A byte as a tag.
@@ -41,7 +42,7 @@ fn add_field(
     wb: &mut [u8],
     wt: &mut [u32],
     out: &mut [u8],
-) -> Flushed
+) -> Result<State, TooNarrow>
     requires counts_within_units { CountsWithinUnits frame st × BuffersLongEnough frame (length lb.old) (length lt.old) (length wb.old) (length wt.old) }
     requires content_bound { st.used + field_units (whole letter content.now) ≤ 4096 }
     ensures text_small { TextSmall frame (st.used + field_units (whole letter content.now)) result }
@@ -50,16 +51,16 @@ fn add_field(
         lb.new lt.new wb.new wt.new out.new }
 {
     if letter == 0x46 {
-        return Flushed::Done(add_element(frame, st, wb, wt, content));
+        return Ok(add_element(frame, st, wb, wt, content));
     }
     if letter != 0x54 {
-        return Flushed::Done(st);
+        return Ok(st);
     }
     if content.len() < 3 {
-        return Flushed::Done(st);
+        return Ok(st);
     }
     if 2 < content[0] {
-        return Flushed::Done(st);
+        return Ok(st);
     }
     let run = run_of(content[0], content[1], content[2]);
     add_text(frame, run, st, &content[3..], lb, lt, wb, wt, out)
@@ -75,7 +76,7 @@ pub fn add_fields(
     wb: &mut [u8],
     wt: &mut [u32],
     out: &mut [u8],
-) -> Flushed
+) -> Result<State, TooNarrow>
     requires counts_within_units { CountsWithinUnits frame st × BuffersLongEnough frame (length lb.old) (length lt.old) (length wb.old) (length wt.old) }
     requires body_bound { st.used + body_units (raws body.now) ≤ 4096 }
     ensures text_small { TextSmall frame (st.used + body_units (raws body.now)) result }
@@ -93,22 +94,14 @@ pub fn add_fields(
                 start,
                 next,
             } => {
-                let done = add_field(frame, cur, letter, &body[start..next], lb, lt, wb, wt, out);
-                match done {
-                    Flushed::Done(more) => {
-                        cur = more;
-                        at = next;
-                    }
-                    Flushed::Narrow => {
-                        return Flushed::Narrow;
-                    }
-                }
+                cur = add_field(frame, cur, letter, &body[start..next], lb, lt, wb, wt, out)?;
+                at = next;
             }
             Field::Broken => {
-                return Flushed::Done(cur);
+                return Ok(cur);
             }
             Field::End => {
-                return Flushed::Done(cur);
+                return Ok(cur);
             }
         }
     }

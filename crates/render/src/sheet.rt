@@ -9,24 +9,18 @@ ghost use Rattle.render.specs.Render.{new_state, FrameSmall, FlushesWrapping, Wr
 
 use crate::body::add_fields;
 use fields::answer::{Rendered, refuse};
-use flush_word::state::{Flushed, State, no_blanks, no_word};
+use flush_word::state::{State, no_blanks, no_word};
 use flush_word::word::flush_word;
+use hard_wrap::error::TooNarrow;
 use hard_wrap::flush::flush_line;
 use hard_wrap::line::{Frame, Open};
 use lines::encode::put_pieces;
 
 // Where the block's lines end in the store, with the names that wait behind them, and the number of the lines.
-#[derive(Clone, Copy)]
+#[derive(Clone, Copy, Debug, PartialEq, Eq)]
 pub struct End {
     pub place: usize,
     pub lines: usize,
-}
-
-// The lines are closed and in the store, and the names behind them, or the block was too narrow.
-#[derive(Clone, Copy)]
-pub enum Lines {
-    Closed(End),
-    Narrow,
 }
 
 // `new`: the store's first five bytes are kept for the head.
@@ -59,24 +53,18 @@ fn flush_wrapping(
     wb: &[u8],
     wt: &[u32],
     out: &mut [u8],
-) -> Lines
+) -> Result<End, TooNarrow>
     requires { CountsWithinUnits frame st × BuffersLongEnough frame (length lb.old) (length lt.old) (length wb.now) (length wt.now) }
     ensures { FlushesWrapping frame st lb.old lt.old wb.now wt.now out.old result out.new }
 {
-    let f = flush_word(frame, st, lb, lt, wb, wt, out);
-    match f {
-        Flushed::Done(last) => {
-            let line = flush_line(frame, last.line, lb, lt, out);
-            let word = last.word;
-            let n = word.n;
-            let place = put_pieces(out, line.place, &wb[..n], &wt[..n]);
-            Lines::Closed(End {
-                place,
-                lines: line.lines,
-            })
-        }
-        Flushed::Narrow => Lines::Narrow,
-    }
+    let last = flush_word(frame, st, lb, lt, wb, wt, out)?;
+    let line = flush_line(frame, last.line, lb, lt, out);
+    let n = last.word.n;
+    let place = put_pieces(out, line.place, &wb[..n], &wt[..n]);
+    Ok(End {
+        place,
+        lines: line.lines,
+    })
 }
 
 // All fields of the job's body from the new block on, and then its end.
@@ -88,20 +76,17 @@ fn wrap_fields(
     wb: &mut [u8],
     wt: &mut [u32],
     out: &mut [u8],
-) -> Lines
+) -> Result<End, TooNarrow>
     requires buffers_long_enough { BuffersLongEnough frame (length lb.old) (length lt.old) (length wb.old) (length wt.old) }
     requires body_bound { body_units (raws body.now) ≤ 4096 }
     ensures { WrapsUp frame body.now out.old result out.new }
 {
-    let f = add_fields(frame, new(), body, lb, lt, wb, wt, out);
-    match f {
-        Flushed::Done(st) => flush_wrapping(frame, st, lb, lt, wb, wt, out),
-        Flushed::Narrow => Lines::Narrow,
-    }
+    let st = add_fields(frame, new(), body, lb, lt, wb, wt, out)?;
+    flush_wrapping(frame, st, lb, lt, wb, wt, out)
 }
 
 // The buffers of the line and of the word.
-pub fn wrap_lines(frame: Frame, body: &[u8], out: &mut [u8]) -> Lines
+pub fn wrap_lines(frame: Frame, body: &[u8], out: &mut [u8]) -> Result<End, TooNarrow>
     requires { FrameSmall frame × (body_units (raws body.now) ≤ 4096) }
     ensures { WrapsUp frame body.now out.old result out.new }
 {

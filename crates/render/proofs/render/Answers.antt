@@ -27,15 +27,15 @@ wrap_lines-lines-requires c =
     let g = good in
     (frame_small _ _ g _ c.frame_of.ensures (omega (arith, c.in-Block.known_told-1-own.given)) (omega (arith, c.in-Block.known_told-1-own.given)), few_units _ _ g)
 
-pub returns-in-Closed : goal.returns-in-Closed
-returns-in-Closed c =
+pub returns-in-Ok : goal.returns-in-Ok
+returns-in-Ok c =
     let good : Good c.args.job.now c.in-Block.setup = good_job _ _ (sym c.read_head-h.ensures ∙ ap head_in c.in-Block.is) (sym c.job_refusal-n.ensures ∙ c.if-n-ne0.false) in
-    answers_sheet _ _ (good) _ _ c.finish.result _ _ _ c.frame_of.ensures (rw c.in-Closed.is at c.wrap_lines-lines.ensures) c.finish.ensures
+    answers_sheet _ _ (good) _ _ c.finish.result _ _ _ c.frame_of.ensures c.in-Ok.ensures c.finish.ensures
 
-pub returns-in-Narrow : goal.returns-in-Narrow
-returns-in-Narrow c =
+pub returns-in-Err : goal.returns-in-Err
+returns-in-Err c =
     let good : Good c.args.job.now c.in-Block.setup = good_job _ _ (sym c.read_head-h.ensures ∙ ap head_in c.in-Block.is) (sym c.job_refusal-n.ensures ∙ c.if-n-ne0.false) in
-    c.too_narrow.ensures ∙ answers_narrow _ _ (good) _ _ _ c.frame_of.ensures (rw c.in-Narrow.is at c.wrap_lines-lines.ensures) c.store-in-Block-1.given
+    c.too_narrow.ensures ∙ answers_narrow _ _ (good) _ _ _ _ c.frame_of.ensures c.in-Err.ensures c.store-in-Block-1.given
 
 pub returns-in-Malformed : goal.returns-in-Malformed
 returns-in-Malformed c =

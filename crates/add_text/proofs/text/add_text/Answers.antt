@@ -3,6 +3,7 @@ use Prim.Native.Nat.{ℕ}
 use native.Mathlib.Omega.{arith}
 use borrow.Author.Rules.{rules}
 use Rattle.hard_wrap.proofs.Walks.{part_len}
+use Rattle.std.proofs.lemmas.Result.{IfOk-from_err}
 use Rattle.add_text.proofs.Walking.{lent_same, lent_word, walking_starts, walking_past, char_inside, char_some, char_is, char_ready, walking_on, walking_narrow, walking_ends}
 use Rattle.add_text.proofs.text.add_text.Goals as goal
 
@@ -40,8 +41,8 @@ slice_bounds-part-end c =
     let h = char_inside i _ _ e in
     search rules
 
-pub add_char-done-requires : goal.add_char-done-requires
-add_char-done-requires c =
+pub add_char-requires : goal.add_char-requires
+add_char-requires c =
     let i = walking_past c.loop-code.invariant c.add_plain-past.result _ _ c.add_plain-past.ensures.adds_plain c.add_plain-past.ensures.len_in_bounds.0 c.add_plain-past.ensures.len_in_bounds.1 (search rules) (search rules) in
     let e = sym c.decode-d.ensures ∙ c.in-Char.is in
     record { ready = (char_ready i _ _ e c.requires.run_small.1, lent_same c.requires.counts_within_units.1 i.lb_same i.lt_same i.wb_same i.wt_same); char_is = (char_is i _ _ e, c.requires.run_small.0) }
@@ -56,38 +57,13 @@ pub loop-code-preserved : goal.loop-code-preserved
 loop-code-preserved c =
     let i = walking_past c.loop-code.invariant c.add_plain-past.result _ _ c.add_plain-past.ensures.adds_plain c.add_plain-past.ensures.len_in_bounds.0 c.add_plain-past.ensures.len_in_bounds.1 (search rules) (search rules) in
     let e = sym c.decode-d.ensures ∙ c.in-Char.is in
-    walking_on i _ _ e c.add_char-done.result _ _ _ _ _ c.add_char-done.ensures.adds_char _ c.in-On.is c.add_char-done.ensures.walk_small (search rules) (search rules) (search rules) (search rules) (search rules)
+    walking_on i _ _ e _ _ _ _ _ _ c.in_ok-cur-in-Char.ensures.adds_char c.in_ok-cur-in-Char.ensures.walk_small (search rules) (search rules) (search rules) (search rules) (search rules)
 
-pub shape_of-lb-in-Narrow : goal.shape_of-lb-in-Narrow
-shape_of-lb-in-Narrow c =
-    let i = walking_past c.loop-code.invariant c.add_plain-past.result _ _ c.add_plain-past.ensures.adds_plain c.add_plain-past.ensures.len_in_bounds.0 c.add_plain-past.ensures.len_in_bounds.1 (search rules) (search rules) in
-    after i.lb_same (search rules)
-
-pub shape_of-lt-in-Narrow : goal.shape_of-lt-in-Narrow
-shape_of-lt-in-Narrow c =
-    let i = walking_past c.loop-code.invariant c.add_plain-past.result _ _ c.add_plain-past.ensures.adds_plain c.add_plain-past.ensures.len_in_bounds.0 c.add_plain-past.ensures.len_in_bounds.1 (search rules) (search rules) in
-    after i.lt_same (search rules)
-
-pub shape_of-wb-in-Narrow : goal.shape_of-wb-in-Narrow
-shape_of-wb-in-Narrow c =
-    let i = walking_past c.loop-code.invariant c.add_plain-past.result _ _ c.add_plain-past.ensures.adds_plain c.add_plain-past.ensures.len_in_bounds.0 c.add_plain-past.ensures.len_in_bounds.1 (search rules) (search rules) in
-    after i.wb_same (search rules)
-
-pub shape_of-wt-in-Narrow : goal.shape_of-wt-in-Narrow
-shape_of-wt-in-Narrow c =
-    let i = walking_past c.loop-code.invariant c.add_plain-past.result _ _ c.add_plain-past.ensures.adds_plain c.add_plain-past.ensures.len_in_bounds.0 c.add_plain-past.ensures.len_in_bounds.1 (search rules) (search rules) in
-    after i.wt_same (search rules)
-
-pub shape_of-out-in-Narrow : goal.shape_of-out-in-Narrow
-shape_of-out-in-Narrow c =
-    let i = walking_past c.loop-code.invariant c.add_plain-past.result _ _ c.add_plain-past.ensures.adds_plain c.add_plain-past.ensures.len_in_bounds.0 c.add_plain-past.ensures.len_in_bounds.1 (search rules) (search rules) in
-    after i.out_same (search rules)
-
-pub returns-in-Narrow : goal.returns-in-Narrow
-returns-in-Narrow c =
+pub returns-in_err-cur-in-Char : goal.returns-in_err-cur-in-Char
+returns-in_err-cur-in-Char c =
     let i = walking_past c.loop-code.invariant c.add_plain-past.result _ _ c.add_plain-past.ensures.adds_plain c.add_plain-past.ensures.len_in_bounds.0 c.add_plain-past.ensures.len_in_bounds.1 (search rules) (search rules) in
     let e = sym c.decode-d.ensures ∙ c.in-Char.is in
-    record { text_small = tt; adds_text = walking_narrow i _ _ e c.add_char-done.result _ _ _ _ _ c.add_char-done.ensures.adds_char c.in-Narrow.is }
+    record { text_small = IfOk-from_err _ _ c.from_residual.ensures.0; adds_text = walking_narrow i _ _ e _ _ _ _ _ _ _ c.in_err-cur-in-Char.ensures.adds_char c.from_residual.ensures.0 }
 
 pub returns-in-Bad : goal.returns-in-Bad
 returns-in-Bad c =

@@ -1,17 +1,18 @@
 -- `add_text::walk::add_char` meets its contract: the character is put once the break point before it is dealt with.
 -- Assumes nothing.
 use mathlib.Core.Path.{refl}
+use Rattle.std.proofs.lemmas.Result.{IfOk-from_err}
 use Rattle.add_text.proofs.Walking.{ready_next, walk_next, lent_same, adds_char, adds_narrow}
 use Rattle.add_text.proofs.walk.add_char.Goals as goal
 
 pub put_char-requires : goal.put_char-requires
 put_char-requires c =
-    record { ready = (ready_next c.args.frame c.args.w _ _ _ c.requires.ready.0 c.in-Done.is c.break_word-f.ensures.stays_within_units, lent_same c.requires.ready.1 c.lb-1.given c.lt-1.given refl refl); char_is = c.requires.char_is }
+    record { ready = (ready_next c.args.frame c.args.w _ _ c.requires.ready.0 c.in_ok-next.ensures.stays_within_units, lent_same c.requires.ready.1 c.lb-1.given c.lt-1.given refl refl); char_is = c.requires.char_is }
 
-pub returns-in-Done : goal.returns-in-Done
-returns-in-Done c =
-    record { walk_small = walk_next c.args.frame c.args.w.st.used _ c.break_word-f.result _ c.put_char.result c.in-Done.is c.break_word-f.ensures.stays_within_units c.put_char.ensures.walk_small; adds_char = adds_char c.args.frame c.args.run c.args.w c.args.code c.args.lb.now c.args.lt.now c.args.wb.now c.args.wt.now c.args.out.now c.break_word-f.result _ _ _ c.break_word-f.ensures.breaks_word _ c.put_char.result _ _ _ _ _ c.in-Done.is c.put_char.ensures.puts_char }
+pub returns : goal.returns
+returns c =
+    record { walk_small = walk_next c.args.frame c.args.w.st.used _ _ c.put_char.result c.in_ok-next.ensures.stays_within_units c.put_char.ensures.walk_small; adds_char = adds_char c.args.frame c.args.run c.args.w c.args.code c.args.lb.now c.args.lt.now c.args.wb.now c.args.wt.now c.args.out.now _ _ _ _ c.put_char.result _ _ _ _ _ c.in_ok-next.ensures.breaks_word c.put_char.ensures.puts_char }
 
-pub returns-in-Narrow : goal.returns-in-Narrow
-returns-in-Narrow c =
-    record { walk_small = tt; adds_char = adds_narrow c.args.frame c.args.run c.args.w c.args.code c.args.lb.now c.args.lt.now c.args.wb.now c.args.wt.now c.args.out.now c.break_word-f.result _ _ _ c.break_word-f.ensures.breaks_word c.in-Narrow.is }
+pub returns-in_err-next : goal.returns-in_err-next
+returns-in_err-next c =
+    record { walk_small = IfOk-from_err _ _ c.from_residual.ensures.0; adds_char = adds_narrow c.args.frame c.args.run c.args.w c.args.code c.args.lb.now c.args.lt.now c.args.wb.now c.args.wt.now c.args.out.now _ _ _ _ _ c.in_err-next.ensures.breaks_word c.from_residual.ensures.0 }

@@ -6,12 +6,13 @@ use native.Mathlib.Omega.{arith}
 use borrow.Author.Tests.{ltb-true}
 use borrow.Author.Rules.{rules, Fits-under}
 use lib.ListN.{length, take, drop}
+use Rattle.std.proofs.lemmas.Result.{IfOk-from_err, MatchResult-from_err}
 use Rattle.characters.specs.Columns.{str_width}
 use Rattle.characters.specs.Utf8.{text_bytes}
 use Rattle.characters.proofs.RoundTrip.{Scalars}
 use Rattle.hard_wrap.specs.Hold.{setup, Room, Moved}
 use Rattle.hard_wrap.specs.Walk.{Going, Split}
-use Rattle.hard_wrap.proofs.Piecewise.{forward_on, piece_start, piece_turn, piece_stuck, piece_rest, piece_end}
+use Rattle.hard_wrap.proofs.Piecewise.{piece_start, piece_turn, piece_stuck, piece_rest, piece_end}
 use Rattle.hard_wrap.proofs.Walks.{part_len, going_start, going_run, going_on, going_stop, going_end, split_same}
 use Rattle.fields.proofs.Texts.{rest as part-rest}
 use Rattle.hard_wrap.proofs.piece.wrap_piece.Goals as goal
@@ -102,8 +103,8 @@ walk-preserved c =
           going_on (rest) cs (c.walk.idx + c.plain_within-run.result.len) (c.walk.used + c.plain_within-run.result.cols) c.glyph-g.result.len c.glyph-g.result.cols v c.if-idx-rest.false c.glyph-g.ensures.shows (past cs v e),
     )
 
-pub wrap_line-step-requires : goal.wrap_line-step-requires
-wrap_line-step-requires c =
+pub wrap_line-requires : goal.wrap_line-requires
+wrap_line-requires c =
     let rest : List ℕ = take (length c.args.piece.now - c.loop-bpos.bpos) (drop c.loop-bpos.bpos c.args.piece.now) in
     let room : Room c.args.frame c.loop-bpos.cur (length (rest)) 1 (length c.loop-bpos.lb) (length c.loop-bpos.lt) × (0 < length (rest)) × (length (rest) < 13107) = omega (arith, part_len c.args.piece.now c.loop-bpos.bpos, c.loop-bpos.invariant, c.requires, c.loop-bpos-test.true) in
     let left : ℕ = c.args.frame.width - c.loop-bpos.cur.cols in
@@ -117,37 +118,37 @@ wrap_line-step-requires c =
 pub overflow_add-bpos : goal.overflow_add-bpos
 overflow_add-bpos c =
     let rest : List ℕ = take (length c.args.piece.now - c.loop-bpos.bpos) (drop c.loop-bpos.bpos c.args.piece.now) in
-    let moved : Moved c.loop-bpos.cur (length (rest)) c.in-On.st c.in-On.split c.in-On.used = forward_on c.in-On.is c.wrap_line-step.ensures.forward in
-    let onward : (c.loop-bpos.bpos + c.in-On.split < 13107)
-    × (c.loop-bpos.wpos + c.in-On.used < 2 ^ 40)
-    × (2 * (length c.args.piece.now - (c.loop-bpos.bpos + c.in-On.split)) + min 1 c.in-On.st.cols
+    let moved : Moved c.loop-bpos.cur (length (rest)) c.in_ok-step.step.st c.in_ok-step.step.split c.in_ok-step.step.used = c.in_ok-step.ensures.forward in
+    let onward : (c.loop-bpos.bpos + c.in_ok-step.step.split < 13107)
+    × (c.loop-bpos.wpos + c.in_ok-step.step.used < 2 ^ 40)
+    × (2 * (length c.args.piece.now - (c.loop-bpos.bpos + c.in_ok-step.step.split)) + min 1 c.in_ok-step.step.st.cols
     < 2 * (length c.args.piece.now - c.loop-bpos.bpos) + min 1 c.loop-bpos.cur.cols) = omega (arith, moved, c.loop-bpos.invariant, c.requires, part_len c.args.piece.now c.loop-bpos.bpos) in
     Fits-under _ _ 13107 (onward).0 tt
 
-pub overflow_add-wpos-in-On : goal.overflow_add-wpos-in-On
-overflow_add-wpos-in-On c =
+pub overflow_add-wpos-in-loop-bpos : goal.overflow_add-wpos-in-loop-bpos
+overflow_add-wpos-in-loop-bpos c =
     let rest : List ℕ = take (length c.args.piece.now - c.loop-bpos.bpos) (drop c.loop-bpos.bpos c.args.piece.now) in
-    let moved : Moved c.loop-bpos.cur (length (rest)) c.in-On.st c.in-On.split c.in-On.used = forward_on c.in-On.is c.wrap_line-step.ensures.forward in
-    let onward : (c.loop-bpos.bpos + c.in-On.split < 13107)
-    × (c.loop-bpos.wpos + c.in-On.used < 2 ^ 40)
-    × (2 * (length c.args.piece.now - (c.loop-bpos.bpos + c.in-On.split)) + min 1 c.in-On.st.cols
+    let moved : Moved c.loop-bpos.cur (length (rest)) c.in_ok-step.step.st c.in_ok-step.step.split c.in_ok-step.step.used = c.in_ok-step.ensures.forward in
+    let onward : (c.loop-bpos.bpos + c.in_ok-step.step.split < 13107)
+    × (c.loop-bpos.wpos + c.in_ok-step.step.used < 2 ^ 40)
+    × (2 * (length c.args.piece.now - (c.loop-bpos.bpos + c.in_ok-step.step.split)) + min 1 c.in_ok-step.step.st.cols
     < 2 * (length c.args.piece.now - c.loop-bpos.bpos) + min 1 c.loop-bpos.cur.cols) = omega (arith, moved, c.loop-bpos.invariant, c.requires, part_len c.args.piece.now c.loop-bpos.bpos) in
     Fits-under _ _ (2 ^ 40) (onward).1 tt
 
 pub loop-bpos-smaller : goal.loop-bpos-smaller
 loop-bpos-smaller c =
     let rest : List ℕ = take (length c.args.piece.now - c.loop-bpos.bpos) (drop c.loop-bpos.bpos c.args.piece.now) in
-    let moved : Moved c.loop-bpos.cur (length (rest)) c.in-On.st c.in-On.split c.in-On.used = forward_on c.in-On.is c.wrap_line-step.ensures.forward in
-    let onward : (c.loop-bpos.bpos + c.in-On.split < 13107)
-    × (c.loop-bpos.wpos + c.in-On.used < 2 ^ 40)
-    × (2 * (length c.args.piece.now - (c.loop-bpos.bpos + c.in-On.split)) + min 1 c.in-On.st.cols
+    let moved : Moved c.loop-bpos.cur (length (rest)) c.in_ok-step.step.st c.in_ok-step.step.split c.in_ok-step.step.used = c.in_ok-step.ensures.forward in
+    let onward : (c.loop-bpos.bpos + c.in_ok-step.step.split < 13107)
+    × (c.loop-bpos.wpos + c.in_ok-step.step.used < 2 ^ 40)
+    × (2 * (length c.args.piece.now - (c.loop-bpos.bpos + c.in_ok-step.step.split)) + min 1 c.in_ok-step.step.st.cols
     < 2 * (length c.args.piece.now - c.loop-bpos.bpos) + min 1 c.loop-bpos.cur.cols) = omega (arith, moved, c.loop-bpos.invariant, c.requires, part_len c.args.piece.now c.loop-bpos.bpos) in
     (onward).2
 
 pub loop-bpos-preserved : goal.loop-bpos-preserved
 loop-bpos-preserved c =
     let rest : List ℕ = take (length c.args.piece.now - c.loop-bpos.bpos) (drop c.loop-bpos.bpos c.args.piece.now) in
-    let moved : Moved c.loop-bpos.cur (length (rest)) c.in-On.st c.in-On.split c.in-On.used = forward_on c.in-On.is c.wrap_line-step.ensures.forward in
+    let moved : Moved c.loop-bpos.cur (length (rest)) c.in_ok-step.step.st c.in_ok-step.step.split c.in_ok-step.step.used = c.in_ok-step.ensures.forward in
     let left : ℕ = c.args.frame.width - c.loop-bpos.cur.cols in
     let wide : (cs : List ℕ) → Scalars cs → c.args.piece.now ≡ text_bytes cs → (n : ℕ) → c.loop-bpos.wpos + n ≡ str_width cs
     → c.args.frame.width < c.loop-bpos.cur.cols + n = λ cs sc e n f. omega (arith, c.width_of-w.ensures.widths cs sc e, f, ltb-true (c.loop-bpos.wpos + left) c.width_of-w.result c.if-wpos-frame.true-raw, c.loop-bpos.invariant.cols) in
@@ -178,25 +179,25 @@ loop-bpos-preserved c =
       going = λ d₀ base b t cs o ta ann sc e.
           let g = c.loop-bpos.invariant.going d₀ base b t cs o ta ann sc e in
           let f = part-rest c.args.piece.now c.loop-bpos.bpos ∙ g.rest in
-          let x = c.wrap_line-step.ensures.wraps_line d₀ base g.next t g.q g.holds ta ann g.scalars f
+          let x = c.in_ok-step.ensures.wraps_line d₀ base g.next t g.q g.holds ta ann g.scalars f
           (wide cs sc e (str_width g.q) g.cols) (stopped g.q g.scalars f) in
-          piece_turn (setup c.args.frame) d₀ base b t cs c.args.piece.now c.loop-bpos.cur c.loop-bpos.wpos c.loop-bpos.bpos _ _ _ g c.in-On.is _ _ _ x;
+          piece_turn (setup c.args.frame) d₀ base b t cs c.args.piece.now c.loop-bpos.cur c.loop-bpos.wpos c.loop-bpos.bpos _ _ _ g _ _ _ _ _ _ x;
     }
 
-pub shape_of-lb-in-Stuck : goal.shape_of-lb-in-Stuck
-shape_of-lb-in-Stuck c =
-    omega (arith, c.wrap_line-step.auto, c.loop-bpos.invariant.bytes)
+pub shape_of-lb-in_err-step : goal.shape_of-lb-in_err-step
+shape_of-lb-in_err-step c =
+    omega (arith, c.wrap_line.auto, c.loop-bpos.invariant.bytes)
 
-pub shape_of-lt-in-Stuck : goal.shape_of-lt-in-Stuck
-shape_of-lt-in-Stuck c =
-    omega (arith, c.wrap_line-step.auto, c.loop-bpos.invariant.tags)
+pub shape_of-lt-in_err-step : goal.shape_of-lt-in_err-step
+shape_of-lt-in_err-step c =
+    omega (arith, c.wrap_line.auto, c.loop-bpos.invariant.tags)
 
-pub shape_of-out-in-Stuck : goal.shape_of-out-in-Stuck
-shape_of-out-in-Stuck c =
-    omega (arith, c.wrap_line-step.auto, c.loop-bpos.invariant.store)
+pub shape_of-out-in_err-step : goal.shape_of-out-in_err-step
+shape_of-out-in_err-step c =
+    omega (arith, c.wrap_line.auto, c.loop-bpos.invariant.store)
 
-pub returns-in-Stuck : goal.returns-in-Stuck
-returns-in-Stuck c =
+pub returns-in_err-step : goal.returns-in_err-step
+returns-in_err-step c =
     let left : ℕ = c.args.frame.width - c.loop-bpos.cur.cols in
     let wide : (cs : List ℕ) → Scalars cs → c.args.piece.now ≡ text_bytes cs → (n : ℕ) → c.loop-bpos.wpos + n ≡ str_width cs
     → c.args.frame.width < c.loop-bpos.cur.cols + n = λ cs sc e n f. omega (arith, c.width_of-w.ensures.widths cs sc e, f, ltb-true (c.loop-bpos.wpos + left) c.width_of-w.result c.if-wpos-frame.true-raw, c.loop-bpos.invariant.cols) in
@@ -214,13 +215,13 @@ returns-in-Stuck c =
       | else-idx-rest+then-left-used y ↦ split_same y.split-is (going_stop part cs i used y.glyph-g.result.len y.glyph-g.result.cols v y.if-idx-rest.false y.glyph-g.ensures.shows l y.if-left-used.true p)
     ] in
     record {
-      grows = tt;
+      grows = IfOk-from_err _ _ c.from_residual.ensures.0;
       pieces = λ d₀ base b t cs o ta ann sc e.
           let g = c.loop-bpos.invariant.going d₀ base b t cs o ta ann sc e in
           let f = part-rest c.args.piece.now c.loop-bpos.bpos ∙ g.rest in
-          let x = c.wrap_line-step.ensures.wraps_line d₀ base g.next t g.q g.holds ta ann g.scalars f
+          let x = c.in_err-step.ensures.wraps_line d₀ base g.next t g.q g.holds ta ann g.scalars f
           (wide cs sc e (str_width g.q) g.cols) (stopped g.q g.scalars f) in
-          λ v cut. piece_stuck (setup c.args.frame) d₀ base b t cs c.args.piece.now c.loop-bpos.cur c.loop-bpos.wpos c.loop-bpos.bpos _ _ _ g c.in-Stuck.is _ _ _ x v;
+          MatchResult-from_err _ _ _ c.from_residual.ensures.0 (λ n v cut. piece_stuck (setup c.args.frame) d₀ base b t cs c.args.piece.now c.loop-bpos.cur c.loop-bpos.wpos c.loop-bpos.bpos _ _ _ g x v);
     }
 
 pub returns-then-bpos-piece : goal.returns-then-bpos-piece

@@ -4,6 +4,7 @@ use Prim.Native.Nat.{ℕ, ◌-◌, ◌≤◌}
 use native.Mathlib.Omega.{arith}
 use borrow.Author.Rules.{rules}
 use lib.ListN.{length, take, drop, length-take, length-drop}
+use Rattle.std.proofs.lemmas.Result.{IfOk-from_err, MatchResult-from_err}
 use Rattle.hard_wrap.proofs.Words.{word_start, word_end, word_name, word_piece, word_narrow}
 use Rattle.hard_wrap.proofs.wrap.hard_wrap.Goals as goal
 
@@ -24,23 +25,23 @@ loop-at-init c =
       left = λ d₀ base b w o v e. word_start c.args.frame d₀ base b w c.args.wb.now c.args.wt.now c.args.st c.args.lb.now c.args.lt.now c.args.out.now o v e;
     }
 
-pub wrap_piece-done-requires : goal.wrap_piece-done-requires
-wrap_piece-done-requires c =
+pub wrap_piece-requires : goal.wrap_piece-requires
+wrap_piece-requires c =
     let pl = piece_len c.args.wb.now c.loop-at.at c.run_end-end.result (omega (arith, c.run_end-end.ensures, c.requires)) in
     omega (arith, pl, c.loop-at.invariant, c.run_end-end.ensures, c.requires)
 
-pub returns-in-Narrow : goal.returns-in-Narrow
-returns-in-Narrow c =
+pub returns-in_err-cur : goal.returns-in_err-cur
+returns-in_err-cur c =
     record {
-      grows = tt;
+      grows = IfOk-from_err _ _ c.from_residual.ensures.0;
       wraps = λ d₀ base b w o v e.
-          word_narrow c.args.frame d₀ base b w c.args.wb.now c.args.wt.now c.loop-at.cur c.loop-at.at c.loop-at.lb c.loop-at.lt c.loop-at.out (c.loop-at.invariant.left d₀ base b w o v e) c.requires.cols_le_width.1 c.loop-at-test.true
-          c.run_end-end.result c.run_end-end.ensures.value c.if-tag-lt-MARK.true c.wrap_piece-done.result _ _ _ c.wrap_piece-done.ensures.pieces c.in-Narrow.is;
+          MatchResult-from_err _ _ _ c.from_residual.ensures.0 (λ n. word_narrow c.args.frame d₀ base b w c.args.wb.now c.args.wt.now c.loop-at.cur c.loop-at.at c.loop-at.lb c.loop-at.lt c.loop-at.out (c.loop-at.invariant.left d₀ base b w o v e) c.requires.cols_le_width.1 c.loop-at-test.true
+          c.run_end-end.result c.run_end-end.ensures.value c.if-tag-lt-MARK.true _ c.wrap_piece.new.lb c.wrap_piece.new.lt c.wrap_piece.new.out c.in_err-cur.ensures.pieces);
     }
 
-pub loop-at-preserved-in-Done : goal.loop-at-preserved-in-Done
-loop-at-preserved-in-Done c =
-    let gr = rw c.in-Done.is at c.wrap_piece-done.ensures.grows in
+pub loop-at-preserved-in_ok-cur : goal.loop-at-preserved-in_ok-cur
+loop-at-preserved-in_ok-cur c =
+    let gr = c.in_ok-cur.ensures.grows in
     let pl = piece_len c.args.wb.now c.loop-at.at c.run_end-end.result (omega (arith, c.run_end-end.ensures, c.requires)) in
     record {
       inside = omega (arith, c.run_end-end.ensures);
@@ -57,7 +58,7 @@ loop-at-preserved-in-Done c =
           c.loop-at-test.true
           c.run_end-end.result c.run_end-end.ensures.value
           c.if-tag-lt-MARK.true
-          c.wrap_piece-done.result _ _ _ c.wrap_piece-done.ensures.pieces _ c.in-Done.is;
+          _ _ _ _ c.in_ok-cur.ensures.pieces;
     }
 
 pub loop-at-preserved : goal.loop-at-preserved

@@ -2,6 +2,7 @@ use mathlib.Core.Path.{sym, ◌∙◌}
 use native.Mathlib.Omega.{arith}
 use borrow.Author.Rules.{rules}
 use Rattle.fields.proofs.Fields.{FieldIs, field_is, field_broken, field_end}
+use Rattle.std.proofs.lemmas.Result.{IfOk-from_err}
 use Rattle.render.proofs.Adding.{added_start, added_end, added_broken, units_next, added_on, added_narrow}
 use Rattle.render.proofs.body.add_fields.Goals as goal
 
@@ -24,8 +25,8 @@ slice_bounds-add_field-end c =
     let found : FieldIs c.args.body.now c.loop-letter.at c.in-At.letter c.in-At.start c.in-At.next = field_is _ _ _ _ _ c.loop-letter.invariant.inside (sym c.field_at-f.ensures.value ∙ c.in-At.is) in
     let r = found in omega (arith, r.order, r.inside)
 
-pub add_field-done-requires : goal.add_field-done-requires
-add_field-done-requires c =
+pub add_field-requires : goal.add_field-requires
+add_field-requires c =
     let found : FieldIs c.args.body.now c.loop-letter.at c.in-At.letter c.in-At.start c.in-At.next = field_is _ _ _ _ _ c.loop-letter.invariant.inside (sym c.field_at-f.ensures.value ∙ c.in-At.is) in
     let u = units_next c.args.frame c.args.st _ _ _ _ _ _ c.loop-letter.cur c.loop-letter.at _ _ _ _ _ c.loop-letter.invariant _ _ _ (found) in record { counts_within_units = (c.loop-letter.invariant.small, omega (arith, c.loop-letter.invariant, c.requires.counts_within_units.1)); content_bound = omega (arith, u, c.loop-letter.invariant.units, c.requires.body_bound) }
 
@@ -37,12 +38,12 @@ loop-letter-smaller c =
 pub loop-letter-preserved : goal.loop-letter-preserved
 loop-letter-preserved c =
     let found : FieldIs c.args.body.now c.loop-letter.at c.in-At.letter c.in-At.start c.in-At.next = field_is _ _ _ _ _ c.loop-letter.invariant.inside (sym c.field_at-f.ensures.value ∙ c.in-At.is) in
-    added_on c.args.frame c.args.st _ _ _ _ _ _ c.loop-letter.cur c.loop-letter.at _ _ _ _ _ c.loop-letter.invariant _ _ _ (found) c.in-Done.more _ _ _ _ _ (search rules, search rules, search rules, search rules, search rules) (rw c.in-Done.is at c.add_field-done.ensures.text_small) (rw c.in-Done.is at c.add_field-done.ensures.adds_field)
+    added_on c.args.frame c.args.st _ _ _ _ _ _ c.loop-letter.cur c.loop-letter.at _ _ _ _ _ c.loop-letter.invariant _ _ _ (found) _ _ _ _ _ _ (search rules, search rules, search rules, search rules, search rules) c.in_ok-cur-in-At.ensures.text_small c.in_ok-cur-in-At.ensures.adds_field
 
-pub returns-in-Narrow : goal.returns-in-Narrow
-returns-in-Narrow c =
+pub returns-in_err-cur-in-At : goal.returns-in_err-cur-in-At
+returns-in_err-cur-in-At c =
     let found : FieldIs c.args.body.now c.loop-letter.at c.in-At.letter c.in-At.start c.in-At.next = field_is _ _ _ _ _ c.loop-letter.invariant.inside (sym c.field_at-f.ensures.value ∙ c.in-At.is) in
-    record { text_small = tt; adds_fields = added_narrow c.args.frame c.args.st _ _ _ _ _ _ c.loop-letter.cur c.loop-letter.at _ _ _ _ _ c.loop-letter.invariant _ _ _ (found) (rw c.in-Narrow.is at c.add_field-done.ensures.adds_field) }
+    record { text_small = IfOk-from_err _ _ c.from_residual.ensures.0; adds_fields = added_narrow c.args.frame c.args.st _ _ _ _ _ _ c.loop-letter.cur c.loop-letter.at _ _ _ _ _ c.loop-letter.invariant _ _ _ (found) _ _ _ _ _ _ _ c.in_err-cur-in-At.ensures.adds_field c.from_residual.ensures.0 }
 
 pub returns-in-Broken : goal.returns-in-Broken
 returns-in-Broken c =

@@ -6,19 +6,19 @@ use Rattle.flush_word.specs.declared.state.State.{State}
 use Rattle.render.proofs.Finishing.{small_fresh, wraps_done, wraps_narrow}
 use Rattle.render.proofs.sheet.wrap_fields.Goals as goal
 
-pub add_fields-f-requires : goal.add_fields-f-requires
-add_fields-f-requires c =
+pub add_fields-requires : goal.add_fields-requires
+add_fields-requires c =
     record { counts_within_units = (small_fresh _ c.new.ensures, c.requires.buffers_long_enough); body_bound = omega (arith, ap (λ (s : State). s.used) c.new.ensures, c.requires.body_bound) }
 
 pub flush_wrapping-requires : goal.flush_wrapping-requires
 flush_wrapping-requires c =
-    let s = rw c.in-Done.is at c.add_fields-f.ensures.text_small in
+    let s = c.in_ok-st.ensures.text_small in
     (s.0, omega (arith, c.requires.buffers_long_enough))
 
-pub returns-in-Done : goal.returns-in-Done
-returns-in-Done c =
-    wraps_done c.args.frame c.args.body.now _ _ _ _ _ _ c.new.ensures c.in-Done.st c.flush_wrapping.result _ (rw c.in-Done.is at c.add_fields-f.ensures.adds_fields) c.flush_wrapping.ensures
+pub returns : goal.returns
+returns c =
+    wraps_done c.args.frame c.args.body.now _ _ _ _ _ _ c.new.ensures c.in_ok-st.st c.flush_wrapping.result _ c.in_ok-st.ensures.adds_fields c.flush_wrapping.ensures
 
-pub returns-in-Narrow : goal.returns-in-Narrow
-returns-in-Narrow c =
-    wraps_narrow c.args.frame c.args.body.now _ _ _ _ _ _ c.new.ensures (rw c.in-Narrow.is at c.add_fields-f.ensures.adds_fields)
+pub returns-in_err-st : goal.returns-in_err-st
+returns-in_err-st c =
+    wraps_narrow c.args.frame c.args.body.now _ _ _ _ _ _ c.new.ensures _ _ _ c.in_err-st.ensures.adds_fields c.from_residual.ensures.0
