@@ -1,10 +1,10 @@
--- `piece::add_fragment` meets its contract: an F field at the end of the line.
+-- `Line::add_fragment` meets its contract: an F field at the end of the line.
 -- Assumes nothing.
 use mathlib.Core.Path.{refl}
 use native.Mathlib.Omega.{arith}
 use Rattle.fields.specs.Field.{field}
 use Rattle.tagged_line.proofs.Laying.{laid_fragment}
-use Rattle.tagged_line.proofs.piece.add_fragment.Goals as goal
+use Rattle.tagged_line.proofs.line.Line.add_fragment.Goals as goal
 
 pub returns : goal.returns
 unfolding field

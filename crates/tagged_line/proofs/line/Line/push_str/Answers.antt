@@ -1,7 +1,7 @@
--- `line::push_str` meets its contract: the text stands where room was made for it. Assumes nothing.
+-- `Line::push_str` meets its contract: the text stands where room was made for it. Assumes nothing.
 use Rattle.tagged_line.proofs.Holding.{pushed}
 use borrow.Author.Rules.{rules}
-use Rattle.tagged_line.proofs.line.push_str.Goals as goal
+use Rattle.tagged_line.proofs.line.Line.push_str.Goals as goal
 
 pub returns : goal.returns
 returns c =

@@ -1,7 +1,7 @@
--- `line::push_ws` meets its contract: the spaces stand where room was made for them. Assumes nothing.
+-- `Line::push_ws` meets its contract: the spaces stand where room was made for them. Assumes nothing.
 use Rattle.tagged_line.proofs.Holding.{pushed_spaces}
 use borrow.Author.Rules.{rules}
-use Rattle.tagged_line.proofs.line.push_ws.Goals as goal
+use Rattle.tagged_line.proofs.line.Line.push_ws.Goals as goal
 
 pub returns : goal.returns
 returns c =

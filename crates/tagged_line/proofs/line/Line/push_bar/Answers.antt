@@ -1,8 +1,8 @@
--- `line::push_bar` meets its contract: the three bytes stand where room was made for them. Assumes nothing.
+-- `Line::push_bar` meets its contract: the three bytes stand where room was made for them. Assumes nothing.
 use Rattle.fields.proofs.Sets.{wrote_then}
 use Rattle.tagged_line.proofs.Holding.{pushed}
 use borrow.Author.Rules.{rules}
-use Rattle.tagged_line.proofs.line.push_bar.Goals as goal
+use Rattle.tagged_line.proofs.line.Line.push_bar.Goals as goal
 
 pub returns : goal.returns
 returns c =

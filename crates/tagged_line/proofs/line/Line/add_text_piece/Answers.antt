@@ -1,10 +1,10 @@
--- `piece::add_text_piece` meets its contract: what is too short adds nothing, and a text is pushed or put as it stands.
+-- `Line::add_text_piece` meets its contract: what is too short adds nothing, and a text is pushed or put as it stands.
 -- Assumes nothing.
 use mathlib.Core.Path.{refl}
 use native.Mathlib.Omega.{arith}
 use Rattle.fields.specs.Field.{field}
 use Rattle.tagged_line.proofs.Laying.{grown_none, grown_more, tail_size, laid_short, laid_joined, laid_apart}
-use Rattle.tagged_line.proofs.piece.add_text_piece.Goals as goal
+use Rattle.tagged_line.proofs.line.Line.add_text_piece.Goals as goal
 
 pub returns-then-content-lt2 : goal.returns-then-content-lt2
 returns-then-content-lt2 c =
@@ -19,4 +19,4 @@ pub returns : goal.returns
 unfolding field
 returns c =
     let n = tail_size c.args.content.now in
-    record { line_grown = record { base = refl; piece = omega (arith, c.put_field-end.ensures.place); on = omega (arith, c.put_field-end.ensures.place); at = omega (arith, c.put_field-end.ensures.place); wider = omega arith; cols = omega (arith, n, c.text_width-cols.ensures.upper_bound) }; adds_text_piece = laid_apart _ _ _ _ c.args.content.now _ _ c.if-joins.false c.text_width-cols.ensures.value c.put_field-end.ensures }
+    record { line_grown = record { base = refl; piece = omega (arith, c.put_field.ensures.place); on = omega (arith, c.put_field.ensures.place); at = omega (arith, c.put_field.ensures.place); wider = omega arith; cols = omega (arith, n, c.text_width-cols.ensures.upper_bound) }; adds_text_piece = laid_apart _ _ _ _ c.args.content.now _ _ c.if-joins.false c.text_width-cols.ensures.value c.put_field.ensures }
