@@ -7,7 +7,7 @@ use mathlib.Core.List.{List, [], ◌∷◌, ◌++◌, append-nil}
 use Prim.Native.Nat.{ℕ, suc, ◌+◌, ◌-◌, ◌*◌, ◌≤◌, ◌<◌}
 use native.Mathlib.Omega.{arith}
 use lib.Dec.{eqb}
-use lib.ListN.{length, take, drop, get_or, length-drop, length-replicate}
+use lib.ListN.{length, take, drop, get_or, length-drop}
 use lib.Seq.{length-take-le, drop-cons}
 use Rattle.std.specs.Prelude.{if◌then◌else◌}
 use Rattle.characters.proofs.Tests.{and_left, and_right, or_left, or_right}
@@ -16,7 +16,8 @@ use Rattle.fields.proofs.Fields.{FieldIs}
 use Rattle.fields.proofs.Texts.{rest}
 use Rattle.borders.specs.BorderSegHoriz.{HorizVert}
 use Rattle.borders.specs.BorderHoriz.{new_type}
-use Rattle.borders.specs.Buffer.{HoldsBorder}
+use Rattle.std.proofs.lemmas.List.{take-replicate}
+use Rattle.std.proofs.Common.{replicate}
 use Rattle.fields.specs.Spans.{RenderLine, Cell, cell, read_line, read_cell_content, read_plain_cell, readable_line, readable_lines, readable_cell}
 use Rattle.rows.specs.SubRenderer.{between}
 use Rattle.rows.specs.Named.{names_left}
@@ -34,16 +35,12 @@ use Rattle.append_subrender.proofs.Adding.{next_bounds, no_lines_read}
 
 -- ---- a border of one segment
 
--- the buffer's part is the border
-pub rule_size : (buffer : List ℕ) (n w segment : ℕ) → HoldsBorder buffer n (new_type w segment) → length (take n buffer) ≡ w
-unfolding new_type
-rule_size buffer n w segment h = ap length h.segments ∙ length-replicate w segment
-
 -- A border as wide as the sheet.
-pub adds_rule : (out out' : List ℕ) (p r : Lines) (s : RenderOptions) (segment n w : ℕ) (buffer : List ℕ) → HoldsBorder buffer n (new_type w segment) → w ≡ s.width
-    → AddsBorder out p s s.annotation (take n buffer) out' r → AddsRule out p s segment out' r
-adds_rule out out' p r s segment n w buffer h e add st ls em =
-    let is : take n buffer ≡ new_type s.width segment = h.segments ∙ ap (λ (k : ℕ). new_type k segment) e in
+pub adds_rule : (out out' : List ℕ) (p r : Lines) (s : RenderOptions) (segment n w : ℕ) → w ≤ n → w ≡ s.width
+    → AddsBorder out p s s.annotation (take w (replicate n segment)) out' r → AddsRule out p s segment out' r
+unfolding new_type
+adds_rule out out' p r s segment n w h e add st ls em =
+    let is : take w (replicate n segment) ≡ replicate s.width segment = take-replicate w n segment h ∙ ap (λ (k : ℕ). replicate k segment) e in
     rw (← is) (add st ls em)
 
 -- Drawn, it is one line more.

@@ -6,7 +6,6 @@ ghost use Rattle.extend_lines.specs.Emitted.{InBounds, OneLineMore};
 ghost use Rattle.append_subrender.specs.Prefixes.{AddsRule, AddsRuleIf, AddsCell, AddsCells};
 
 use crate::prefixed::{Added, add_prefixed};
-use borders::border::new_type;
 use extend_lines::line::{Lines, add_border};
 use fields::field::{Field, field_at, wide};
 use rows::RenderOptions;
@@ -17,9 +16,9 @@ fn add_rule(out: &mut [u8], lines: Lines, options: RenderOptions, segment: u8) -
     ensures one_line_more { OneLineMore lines result }
     ensures adds_rule { AddsRule out.old lines options segment out.new result }
 {
-    let mut rule = [0u8; 256];
-    let n = new_type(&mut rule, wide(options.width), segment);
-    add_border(out, lines, options, options.annotation, &rule[..n])
+    let rule = [segment; 256];
+    let width = wide(options.width);
+    add_border(out, lines, options, options.annotation, &rule[..width])
 }
 
 // The same, if it is to be drawn.

@@ -11,8 +11,6 @@ use fields::width::text_width;
 use holes::draw::push_holed;
 use places::border::border_parts;
 use rows::RenderOptions;
-use tagged_line::line::push_str;
-use tagged_line::piece::add_pieces;
 
 // The prefix of the next line, from one place to another of the prefixes' bytes, and its columns; or that there is none.
 #[derive(Clone, Copy)]
@@ -51,10 +49,10 @@ pub fn add_prefixed(
     }
     let annotation = options.annotation;
     let line = begin_line(out, lines, names);
-    let head = push_str(out, line, annotation, prefix, cols);
+    let head = line.push_str(out, annotation, prefix, cols);
     if letter == b'L' {
         let waits = 0 < names.len();
-        let whole = add_pieces(out, head, content, true, waits);
+        let whole = head.add_pieces(out, content, true, waits);
         return add_text_line(out, lines, whole, options);
     }
     let parts = border_parts(letter, content);

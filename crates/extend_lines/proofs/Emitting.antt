@@ -19,6 +19,7 @@ use Rattle.fields.specs.Store.{Wrote}
 use Rattle.fields.specs.Answer.{Answer, refused, in_store, give, Stands}
 use Rattle.fields.specs.Widths.{width}
 use Rattle.fields.proofs.Sets.{sets_append, wrote_then, wrote_before}
+use Rattle.borders.specs.declared.draw.Drawing.TheVariants.{Segments}
 use Rattle.borders.specs.BorderHoriz.{stretch_to, to_string, drawn, into_tagged_from, border_into_tagged_line}
 use Rattle.borders.proofs.Drawing.{drawn_string}
 use Rattle.rows.specs.declared.RenderOptions.{RenderOptions}
@@ -203,7 +204,7 @@ held_new out place = record {
 }
 
 -- Its own drawing is what is drawn with no width.
-drawing : (segs : List ℕ) → drawn false (stretch_to segs 0) ≡ to_string segs
+drawing : (segs : List ℕ) → drawn Segments (stretch_to segs 0) ≡ to_string segs
 unfolding stretch_to
 drawing segs =
     let n : 0 - length segs ≡ 0 = omega arith in
@@ -233,7 +234,7 @@ drawn_pieces a segs = refl
 
 -- With pad it becomes text, under its own annotation.
 pub adds_drawn : (out o₁ out' : List ℕ) (p r : Lines) (s : RenderOptions) (a : ℕ) (segs : List ℕ) (new line : Line) → s.pad ≡ true → new ≡ new_line p.at
-    → length o₁ ≡ length out → Draws out new a segs 0 false o₁ line → AddsTextLine o₁ p line s out' r → AddsBorder out p s a segs out' r
+    → length o₁ ≡ length out → Draws out new a segs 0 Segments o₁ line → AddsTextLine o₁ p line s out' r → AddsBorder out p s a segs out' r
 unfolding padded
 adds_drawn out o₁ out' p r s a segs new line pad is same draws adds st ls e =
     let held : Held out (push_str [] a (to_string segs)) o₁ line =

@@ -2,12 +2,12 @@
 ghost use Rattle.std.specs.Prelude.{◌≡◌, true, ◌^◌, ◌<◌, length};
 ghost use Rattle.extend_lines.specs.Emitted.{no_lines, InBounds, OneLineMore, LineBegun, FinishesLine, AddsTextLine, BeginsLine, PutsBorder, AddsBorder, Closes};
 
-use borders::draw::drawn_len;
+use borders::draw::Drawing;
 use fields::answer::{Rendered, finish, refuse};
 use fields::field::wide;
 use fields::store::{put_byte, put_bytes, put_head};
 use rows::RenderOptions;
-use tagged_line::line::{Line, new_line, pad_to, push_drawn};
+use tagged_line::line::Line;
 
 // The place after the lines so far, their number, and whether one of them has more than 65,535 bytes (refusal 7).
 #[derive(Clone, Copy)]
@@ -81,7 +81,7 @@ pub fn add_text_line(out: &mut [u8], lines: Lines, line: Line, options: RenderOp
 {
     if options.pad {
         let width = wide(options.width);
-        let padded = pad_to(out, line, width, options.annotation);
+        let padded = line.pad_to(out, width, options.annotation);
         return finish_line(out, lines, padded);
     }
     finish_line(out, lines, line)
@@ -118,9 +118,8 @@ pub fn add_border(
     ensures adds_border { AddsBorder out.old lines options annotation segs.now out.new result }
 {
     if options.pad {
-        let n = drawn_len(segs, false);
-        let line = new_line(lines.at);
-        let text = push_drawn(out, line, annotation, segs, n, 0, false);
+        let line = Line::new(lines.at);
+        let text = line.push_drawn(out, annotation, segs, 0, Drawing::Segments);
         return add_text_line(out, lines, text, options);
     }
     put_border(out, lines, annotation, segs)

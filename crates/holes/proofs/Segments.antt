@@ -19,6 +19,7 @@ use Rattle.fields.specs.Text.{readable_text}
 use Rattle.fields.specs.Widths.{text_width, piece_width}
 use Rattle.fields.proofs.Parts.{part_length}
 use Rattle.fields.proofs.Texts.{rest}
+use Rattle.borders.specs.declared.draw.Drawing.TheVariants.{Segments}
 use Rattle.borders.specs.BorderSegHoriz.{Horiz}
 use Rattle.borders.specs.BorderHoriz.{stretch_to, to_string, drawn, as_str, up_to_hole, at_hole}
 use Rattle.borders.proofs.Drawing.{drawn_string, drawn_nil}
@@ -104,7 +105,7 @@ module _ (segs : List ℕ) (w from to a b : ℕ) (h : from < to) (k : to ≤ len
 
 -- no segments, no text
 pub string_nil : to_string [] ≡ []
-string_nil = sym (drawn_string []) ∙ drawn_nil false
+string_nil = sym (drawn_string []) ∙ drawn_nil Segments
 
 -- an empty part
 pub part_none : (from to : ℕ) (s : List ℕ) → to ≤ from → part from to s ≡ []
@@ -121,9 +122,9 @@ pub drawn_none : (out : List ℕ) (p : Line) (a : ℕ) (segs : List ℕ) (from t
 drawn_none out p a segs from to h w k st l g = rw (push_part_none l a from to (stretch_to segs w) h) g
 
 pub drawn_part : (out out' : List ℕ) (p r : Line) (c : ℕ) (segs : List ℕ) (from to a b : ℕ) → from < to → a ≡ from - (from - length segs)
-    → b ≡ to - (to - length segs) → Draws out p c (part a b segs) (to - from) false out' r → DrawsPart out p c segs from to out' r
+    → b ≡ to - (to - length segs) → Draws out p c (part a b segs) (to - from) Segments out' r → DrawsPart out p c segs from to out' r
 drawn_part out out' p r c segs from to a b h ea eb d w k st l g =
-    let e : drawn false (stretch_to (part a b segs) (to - from)) ≡ to_string (part from to (stretch_to segs w)) =
+    let e : drawn Segments (stretch_to (part a b segs) (to - from)) ≡ to_string (part from to (stretch_to segs w)) =
     drawn_string (stretch_to (part a b segs) (to - from)) ∙ ap to_string (part_stretched segs w from to a b h (omega arith) ea eb) in
     rw (← e) (d st l g)
 

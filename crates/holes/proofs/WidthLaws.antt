@@ -18,6 +18,7 @@ use Rattle.fields.proofs.Back.{Every}
 use Rattle.fields.proofs.Fields.{FieldIs}
 use Rattle.fields.proofs.Parts.{part_length}
 use Rattle.fields.proofs.Readings.{read_first, read_none}
+use Rattle.borders.specs.declared.draw.Drawing.TheVariants.{Segments}
 use Rattle.borders.specs.BorderHoriz.{to_string, glyph, up_to_hole, at_hole, into_tagged_from}
 use Rattle.borders.proofs.Drawing.{drawn_string, drawn_chars}
 use Rattle.fields.specs.Text.{WellFormed}
@@ -134,11 +135,11 @@ last_few pos end n r h e = omega arith
 
 -- A border's text has a column for each segment.
 pub string_width : (b : List ℕ) → text_width (to_string b) ≡ length b
-string_width b = ap text_width (sym (drawn_string b)) ∙ drawn_width false b
+string_width b = ap text_width (sym (drawn_string b)) ∙ drawn_width Segments b
 
 -- It is well-formed.
 pub string_formed : (b : List ℕ) → WellFormed (to_string b)
-string_formed b = (map (glyph false) b, ap chars (sym (drawn_string b)) ∙ drawn_chars false b)
+string_formed b = (map (glyph Segments) b, ap chars (sym (drawn_string b)) ∙ drawn_chars Segments b)
 
 pub formed : (q : Piece) → readable_piece q ≡ true → WellFormedPiece q
 formed (str a t) e = readable_formed false t e

@@ -4,11 +4,10 @@ ghost use Rattle.tagged_line.specs.Held.{Within, LineGrown};
 ghost use Rattle.holes.specs.Drawing.{drawn_most, DrawsPart, PushesText, PushesPiece, DrawsHoles, PushesHoled, PushesTagged};
 
 use crate::cols::{larger, piece_cols, smaller};
-use borders::draw::drawn_len;
+use borders::draw::Drawing;
 use fields::width::text_width;
 use places::hole::{HoleAt, hole_at};
-use tagged_line::line::{Line, push_drawn, push_str};
-use tagged_line::piece::add_pieces;
+use tagged_line::line::Line;
 
 // The segments of a border from one column up to another, Horiz past its own.
 fn push_segments(
@@ -29,8 +28,7 @@ fn push_segments(
     let k = segs.len();
     let a = smaller(from, k);
     let b = smaller(to, k);
-    let n = drawn_len(&segs[a..b], false);
-    push_drawn(out, line, annotation, &segs[a..b], n, to - from, false)
+    line.push_drawn(out, annotation, &segs[a..b], to - from, Drawing::Segments)
 }
 
 // The text of a hole under one annotation; of a name nothing.
@@ -42,7 +40,7 @@ fn push_text(out: &mut [u8], line: Line, annotation: u8, letter: u8, content: &[
     if letter == b'S' {
         if 1 <= content.len() {
             let cols = text_width(&content[1..]);
-            return push_str(out, line, annotation, &content[1..], cols);
+            return line.push_str(out, annotation, &content[1..], cols);
         }
     }
     line
@@ -68,7 +66,7 @@ fn push_piece(
         return push_text(out, line, annotation, letter, &content[start..next]);
     }
     let field = start - 3;
-    add_pieces(out, line, &content[field..next], true, true)
+    line.add_pieces(out, &content[field..next], true, true)
 }
 
 // The walk of `to_string` and `into_tagged_line`: a border's segments under an annotation, and its holes.

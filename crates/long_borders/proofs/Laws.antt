@@ -8,13 +8,18 @@ use mathlib.Core.List.{List, [], ◌∷◌, ◌++◌, append-nil}
 use Prim.Native.Nat.{ℕ, zero, suc, ◌+◌, ◌-◌, ◌≤◌, ◌<◌, min, max}
 use native.Mathlib.Omega.{arith}
 use native.Mathlib.Numerals.{add-one}
-use lib.ListN.{length, take, drop, set, get_or, replicate, length-append, length-replicate, length-set, length-take}
-use lib.Seq.{drop-cons, take_all, take-take, take-append-le, take-append-add, take-set-lt, take-set-le, take-suc-set, set_out, get_or-take, take-nil}
+use borrow.Rule.Slice.PartMut.{put_mid}
+use Rattle.std.proofs.lemmas.List.{take_at, take-replicate}
+use Rattle.std.proofs.lemmas.Slice.{take-put_mid}
+use Rattle.std.proofs.Common.{length-take-le, length-drop}
+use native.Mathlib.Nat.{sub_self}
+use lib.ListN.{length, take, drop, get_or, replicate, length-append, length-replicate, length-take}
+use lib.Seq.{drop-cons, take_all, take-take, take-append-le, take-append-add, take-nil}
 use Rattle.std.specs.Prelude.{if◌then◌else◌}
 use Rattle.characters.proofs.Tests.{lt_or_le}
 use Rattle.borders.specs.declared.border.Side.{Side}
 use Rattle.borders.specs.BorderSegHoriz.{Horiz, chop_left, chop_right}
-use Rattle.borders.specs.BorderHoriz.{new_type, stretch_to, change, joined_on, joins_from, join_on, merge_from, chop_before, cut_for}
+use Rattle.borders.specs.BorderHoriz.{new_type, stretch_to, joined_on, joins_from, join_on, merge_from, chop_before, cut_for}
 use Rattle.borders.proofs.Buffers.{merge_cons, merge_starts as starts, merge_ends as ends}
 use Rattle.long_borders.specs.Keeps.{Near, Keeps, Fills, Copies, Stretches, NearIn, Changes, ChopsBefore, Cuts, JoinsOn, MergesFrom}
 
@@ -100,12 +105,7 @@ keeps_part b n d m k =
 
 -- ---- made and copied
 
-take_replicate : (k m a : ℕ) → k ≤ m → take k (replicate m a) ≡ replicate k a
-take_replicate zero m a h = refl
-take_replicate (suc k) zero a h = absurd (omega arith)
-take_replicate (suc k) (suc m) a h = ap (λ (l : List ℕ). a ∷ l) (take_replicate k m a (omega arith))
-
--- What a loop that copies leaves: the border up to i, its end or the buffer's.
+-- What a copy leaves: the border up to i, its end or the buffer's.
 pub copied : (b b₀ segs : List ℕ) (i r : ℕ) → length b ≡ length b₀ → i ≡ min (length segs) (length b₀) → take i b ≡ take i segs
     → r ≡ length segs → Copies b₀ segs b r
 copied b b₀ segs i r e f t s room = record { room = omega arith; size = inl s; kept = ⊎_elim long short (lt_or_le (length b₀) (length segs)) }
@@ -120,23 +120,16 @@ copied b b₀ segs i r e f t s room = record { room = omega arith; size = inl s;
         let m : i ≡ r = omega arith in
         take_all (length b) segs (omega arith) ∙ sym (take_all i segs (omega arith)) ∙ sym t ∙ ap (λ (x : ℕ). take x b) m
 
--- One byte more of a copy.
-pub copied_more : (b segs : List ℕ) (i : ℕ) → i < length b → i < length segs → take i b ≡ take i segs
-    → take (i + 1) (set b i (get_or segs i 0)) ≡ take (i + 1) segs
-copied_more b segs i h g e =
-    rw (add-one i, take-suc-set b i (get_or segs i 0) h, e) (sym (take_more segs i g))
-  where
-    take_more : (l : List ℕ) (j : ℕ) → j < length l → take (suc j) l ≡ take j l ++ (get_or l j 0 ∷ [])
-    take_more [] j l = absurd (omega arith)
-    take_more (x ∷ xs) zero l = refl
-    take_more (x ∷ xs) (suc j) l = ap (λ (r : List ℕ). x ∷ r) (take_more xs j (omega arith))
-
--- What the loop of `new_type` leaves.
-pub filled_up : (b b₀ : List ℕ) (w s i r : ℕ) → length b ≡ length b₀ → i ≡ min w (length b₀) → take i b ≡ replicate i s → r ≡ w
-    → Fills b₀ w s b r
+-- What filling the buffer up to the width or its end leaves.
+pub filled_up : (b₀ x : List ℕ) {i : ℕ} (w s : ℕ) → i ≡ min w (length b₀) → x ≡ replicate (length (take i b₀)) s → Fills b₀ w s (x ++ drop i b₀) w
 unfolding new_type
-filled_up b b₀ w s i r e f t g room =
-    copied b b₀ (replicate w s) i r e (omega (arith, length-replicate w s)) (t ∙ sym (take_replicate i w s (omega arith))) (omega (arith, length-replicate w s)) room
+filled_up b₀ x {i} w s e f =
+    let within : i ≤ length b₀ = omega arith in
+    let x-is : x ≡ replicate i s = rw (length-take-le i b₀ within) at f in
+    let long : length x ≡ i = rw (x-is, length-replicate) refl in
+    copied (x ++ drop i b₀) b₀ (replicate w s) i w
+    (omega (arith, length-append x (drop i b₀), length-drop i b₀)) (omega (arith, length-replicate w s))
+    (take_at x (drop i b₀) i long ∙ x-is ∙ sym (take-replicate i w s (omega arith))) (sym (length-replicate w s))
 
 -- ---- stretched
 
@@ -144,8 +137,8 @@ stretch_length : (b : List ℕ) (w : ℕ) → length (stretch_to b w) ≡ max (l
 unfolding stretch_to
 stretch_length b w = omega (arith, length-append b (replicate (w - length b) Horiz), length-replicate (w - length b) Horiz)
 
--- What the loop of `stretch_to` leaves: Horiz from n up to i, the width or the buffer's end.
-pub keeps_stretched : (b b₀ : List ℕ) (n w i r : ℕ) → length b ≡ length b₀ → n ≤ i → i - n ≡ min w (length b₀) - n
+-- The border is Horiz from n up to i, the width or the buffer's end.
+keeps_stretched : (b b₀ : List ℕ) (n w i r : ℕ) → length b ≡ length b₀ → n ≤ i → i - n ≡ min w (length b₀) - n
     → take i b ≡ take n b₀ ++ replicate (i - n) Horiz → r ≡ max n w → Stretches b₀ n w b r
 unfolding stretch_to
 keeps_stretched b b₀ n w i r e g f t s border w₀ k nw =
@@ -177,7 +170,7 @@ keeps_stretched b b₀ n w i r e g f t s border w₀ k nw =
         let m : length b ≡ length border + (length b - n) = omega arith in
         ap (λ (x : ℕ). take x (border ++ replicate (w₀ - length border) Horiz)) m
         ∙ take-append-add border (replicate (w₀ - length border) Horiz) (length b - n)
-        ∙ ap₂ (λ (x y : List ℕ). x ++ y) own (take_replicate (length b - n) (w₀ - length border) Horiz (omega arith) ∙ ap (λ (x : ℕ). replicate x Horiz) (sym d))
+        ∙ ap₂ (λ (x y : List ℕ). x ++ y) own (take-replicate (length b - n) (w₀ - length border) Horiz (omega arith) ∙ ap (λ (x : ℕ). replicate x Horiz) (sym d))
         ∙ sym t ∙ take_all i b (omega arith) ∙ sym (take_all r b (omega arith)))
         (λ (fits : w ≤ length b₀).
         let one : w ≡ w₀ = near_low nw (omega (arith, k.room)) in
@@ -187,48 +180,21 @@ keeps_stretched b b₀ n w i r e g f t s border w₀ k nw =
         ∙ ap₂ (λ (x : List ℕ) (y : ℕ). x ++ replicate y Horiz) own (sym d) ∙ sym t ∙ ap (λ (x : ℕ). take x b) same)
         (lt_or_le (length b₀) w)
 
+-- What filling the buffer from n up to the width or its end leaves.
+pub stretched_up : (b₀ x : List ℕ) {b : List ℕ} {n w i r : ℕ} → length b ≡ length b₀ → i ≡ min w (length b₀) → n < i → b ≡ put_mid n (i - n) b₀ x
+    → x ≡ replicate (length (take (i - n) (drop n b₀))) Horiz → r ≡ max n w → Stretches b₀ n w b r
+stretched_up b₀ x {b} {n} {w} {i} {r} same e h g f s =
+    let x-is : x ≡ replicate (i - n) Horiz = rw (length-take-le (i - n) (drop n b₀) (omega (arith, length-drop n b₀))) at f in
+    let long : length x ≡ i - n = rw (x-is, length-replicate) refl in
+    keeps_stretched b b₀ n w i r same (omega arith) (omega arith)
+    (rw g (take-put_mid n (i - n) b₀ x i (omega arith) (omega arith)) ∙ ap (λ (y : List ℕ). take n b₀ ++ y) x-is) s
+
+-- A border that is as wide, or longer than the buffer, stays.
+pub stretched_none : (b₀ : List ℕ) {b : List ℕ} {n w i r : ℕ} → i ≡ min w (length b₀) → i ≤ n → b ≡ b₀ → r ≡ max n w → Stretches b₀ n w b r
+stretched_none b₀ {b} {n} {w} {i} {r} e h g s =
+    keeps_stretched b b₀ n w n r (ap length g) (omega arith) (omega arith) (rw (g, sub_self n, append-nil)) s
+
 -- ---- a segment changed
-
--- A segment changed in the buffer is changed in the border; where the border has none there, nothing is.
-keeps_change : (f : ℕ → ℕ) (b : List ℕ) (n : ℕ) (border : List ℕ) (x : ℕ) → Keeps b n border → x < length b
-    → Keeps (set b x (f (get_or b x 0))) n (change f border x)
-keeps_change f b n border x k h =
-    record {
-      room = rw (length-set b x (f (get_or b x 0))) k.room;
-      size = rw (length-set border x (f (get_or border x Horiz))) k.size;
-      kept = ap (λ (m : ℕ). take m (change f border x)) (length-set b x (f (get_or b x 0))) ∙ ⊎_elim there past (lt_or_le x n);
-    }
-  where
-    there : x < n → take (length b) (change f border x) ≡ take n (set b x (f (get_or b x 0)))
-    there l =
-        let v = f (get_or b x 0) in
-        let same : get_or border x Horiz ≡ get_or b x 0 = sym (get_or-take (length b) border x 0 h) ∙ ap (λ (s : List ℕ). get_or s x 0) k.kept ∙ get_or-take n b x 0 l in
-        take-set-lt (length b) border x (f (get_or border x Horiz)) h
-        ∙ ap₂ (λ (s : List ℕ) (u : ℕ). set s x (f u)) k.kept same
-        ∙ sym (take-set-lt n b x v l)
-
-    past : n ≤ x → take (length b) (change f border x) ≡ take n (set b x (f (get_or b x 0)))
-    past l =
-        let size = (keeps_fits b n border k (omega arith)).1 in
-        ap (take (length b)) (set_out border x (f (get_or border x Horiz)) (omega (arith, size))) ∙ k.kept ∙ sym (take-set-le n b x (f (get_or b x 0)) l)
-
--- The same with what was written.
-pub changed : (f : ℕ → ℕ) (b : List ℕ) (x v : ℕ) → v ≡ f (get_or b x 0) → x < length b → Changes f b x (set b x v)
-changed f b x v e h n border x₀ k (inl p) = rw (e, ← p) (keeps_change f b n border x k h)
-changed f b x v e h n border x₀ k (inr p) = absurd (omega (arith, p.0))
-
--- A segment changed past the buffer.
-pub changed_past : (f : ℕ → ℕ) (b : List ℕ) (x : ℕ) → length b ≤ x → Changes f b x b
-changed_past f b x h n border x₀ k near =
-    record {
-      room = k.room;
-      size = rw (length-set border x₀ (f (get_or border x₀ Horiz))) k.size;
-      kept = take-set-le (length b) border x₀ (f (get_or border x₀ Horiz)) (beyond near) ∙ k.kept;
-    }
-  where
-    beyond : NearIn b x x₀ → length b ≤ x₀
-    beyond (inl p) = omega (arith, p)
-    beyond (inr p) = p.1
 
 -- A join at a place that was reached.
 pub joined_at : (side : Side) {b₀ b b' : List ℕ} {n k : ℕ} (x : ℕ) → Stretches b₀ n (x + 1) b k → Changes (joined_on side) b x b'

@@ -1,7 +1,9 @@
 -- A border in a lent buffer of at most 65,536 bytes that may be too short for it, and running positions that stop growing at a cap.
 -- Assumes nothing: these are definitions.
-use Rattle.std.specs.Prelude.{◌≡◌, ◌⊎◌, List, ℕ, ◌+◌, ◌≤◌, length, take}
+use Rattle.std.specs.Prelude.{◌≡◌, ◌⊎◌, List, ℕ, ◌+◌, ◌≤◌, ◌<◌, length, take}
 use Rattle.borders.specs.declared.border.Side.{Side}
+use Rattle.borders.specs.declared.segment.BorderSegHoriz.{BorderSegHoriz}
+use Rattle.borders.specs.BorderSegHoriz.{number}
 use Rattle.borders.specs.BorderHoriz.{new_type, stretch_to, change, join_on, merge_from, chop_before, cut_for}
 
 -- two positions are equal, or both lie past every border that fits a field
@@ -33,6 +35,15 @@ NearIn b x x₀ = (x ≡ x₀) ⊎ ((length b ≤ x) × (length b ≤ x₀))
 -- the segment at a place changed
 abbrev pub Changes : (ℕ → ℕ) → List ℕ → ℕ → List ℕ → Type 0
 Changes f b x b' = (n : ℕ) (border : List ℕ) (x₀ : ℕ) → Keeps b n border → NearIn b x x₀ → Keeps b' n (change f border x₀)
+
+-- what a match makes of the segments is f of their numbers, and f leaves a byte that is no segment
+pub record Means (matched : BorderSegHoriz → BorderSegHoriz → Type 0) (f : ℕ → ℕ) : Type 0 where
+  pub segments : (s r : BorderSegHoriz) → matched s r → number r ≡ f (number s)
+  pub others : (byte : ℕ) → 11 < byte → byte < 256 → f byte ≡ byte
+
+-- the segment at a place changed by a match
+abbrev pub ChangesBy : (BorderSegHoriz → BorderSegHoriz → Type 0) → List ℕ → ℕ → List ℕ → Type 0
+ChangesBy matched b x b' = (f : ℕ → ℕ) → Means matched f → Changes f b x b'
 
 -- `chop_right` before a place
 abbrev pub ChopsBefore : List ℕ → ℕ → List ℕ → Type 0

@@ -1,31 +1,17 @@
 // A border of n segments of which the buffer has the first ones (`Keeps`); each method answers how many segments there are after it.
-ghost use Rattle.std.specs.Prelude.{◌≡◌, ◌+◌, ◌^◌, ◌≤◌, ◌<◌, min, max, length};
-ghost use Rattle.borders.specs.BorderHoriz.{joined_on, joins_from};
-ghost use Rattle.borders.specs.BorderSegHoriz.{chop_left, chop_right};
-ghost use Rattle.long_borders.specs.Keeps.{Fills, Copies, Stretches, Changes, ChopsBefore, JoinsOn, MergesFrom, Cuts};
+ghost use Rattle.std.specs.Prelude.{◌≡◌, ◌+◌, ◌^◌, ◌≤◌, ◌<◌, max, length};
+ghost use Rattle.long_borders.specs.Keeps.{Fills, Copies, Stretches, ChangesBy, ChopsBefore, JoinsOn, MergesFrom, Cuts};
 
-use crate::chop::{chop_left, chop_right};
 use borders::border::Side;
-use borders::segment::{join_above, join_below, joins_above, joins_below};
-
-// The lesser of two numbers.
-fn lesser(a: usize, b: usize) -> usize
-    ensures { result ≡ min a b }
-{
-    if a <= b { a } else { b }
-}
+use borders::segment::{BorderSegHoriz, HORIZ};
 
 // `new_type`: w segments of one kind.
 pub fn new_type(border: &mut [u8], w: usize, segment: u8) -> usize
     ensures value { (result ≡ w) × (length border.new ≡ length border.old) }
     ensures fills { Fills border.old w segment border.new result }
 {
-    let end = lesser(w, border.len());
-    let mut i: usize = 0;
-    while i < end {
-        border[i] = segment;
-        i += 1;
-    }
+    let end = w.min(border.len());
+    border[..end].fill(segment);
     w
 }
 
@@ -34,12 +20,8 @@ pub fn set_segs(border: &mut [u8], segs: &[u8]) -> usize
     ensures value { (result ≡ length segs.now) × (length border.new ≡ length border.old) }
     ensures copies { Copies border.old segs.now border.new result }
 {
-    let end = lesser(segs.len(), border.len());
-    let mut i: usize = 0;
-    while i < end {
-        border[i] = segs[i];
-        i += 1;
-    }
+    let end = segs.len().min(border.len());
+    border[..end].copy_from_slice(&segs[..end]);
     segs.len()
 }
 
@@ -48,32 +30,23 @@ pub fn stretch_to(border: &mut [u8], n: usize, w: usize) -> usize
     ensures value { (result ≡ max n w) × (length border.new ≡ length border.old) }
     ensures stretches { Stretches border.old n w border.new result }
 {
-    let end = lesser(w, border.len());
-    let mut i = n;
-    while i < end {
-        border[i] = 0;
-        i += 1;
+    let end = w.min(border.len());
+    if n < end {
+        border[n..end].fill(HORIZ);
     }
-    if n <= w { w } else { n }
+    n.max(w)
 }
 
-// `chop_left` of the segment at a place, if there is one.
-fn chop_left_at(border: &mut [u8], x: usize)
+// The segment at a place changed, if there is one; a byte that is no segment stays.
+fn change_at<F: FnOnce(BorderSegHoriz) -> BorderSegHoriz>(border: &mut [u8], x: usize, change: F)
+    requires { F.IsAlwaysCallable change }
     ensures border_len_unchanged { length border.new ≡ length border.old }
-    ensures changes { Changes chop_left border.old x border.new }
+    ensures changes_by { ChangesBy (F.post change) border.old x border.new }
 {
     if x < border.len() {
-        border[x] = chop_left(border[x]);
-    }
-}
-
-// `chop_right` of the segment at a place, if there is one.
-fn chop_right_at(border: &mut [u8], x: usize)
-    ensures border_len_unchanged { length border.new ≡ length border.old }
-    ensures changes { Changes chop_right border.old x border.new }
-{
-    if x < border.len() {
-        border[x] = chop_right(border[x]);
+        if let Ok(segment) = BorderSegHoriz::try_from(border[x]) {
+            border[x] = u8::from(change(segment));
+        }
     }
 }
 
@@ -83,7 +56,7 @@ fn chop_before(border: &mut [u8], pos: usize)
     ensures chops_before { ChopsBefore border.old pos border.new }
 {
     if 0 < pos {
-        chop_right_at(border, pos - 1);
+        change_at(border, pos - 1, |segment| segment.chop_right());
     }
 }
 
@@ -94,28 +67,8 @@ pub fn cut_for(border: &mut [u8], n: usize, pos: usize, rpos: usize) -> usize
 {
     let k = stretch_to(border, n, rpos);
     chop_before(border, pos);
-    chop_left_at(border, rpos);
+    change_at(border, rpos, |segment| segment.chop_left());
     k
-}
-
-// A segment joined to a line on a side of it.
-fn joined(segment: u8, side: Side) -> u8
-    ensures { result ≡ joined_on side segment }
-{
-    match side {
-        Side::Above => join_above(segment),
-        Side::Below => join_below(segment),
-    }
-}
-
-// Whether a border merged from a side joins at a segment of it.
-fn joins(segment: u8, side: Side) -> bool
-    ensures { result ≡ joins_from side segment }
-{
-    match side {
-        Side::Above => joins_above(segment),
-        Side::Below => joins_below(segment),
-    }
 }
 
 // `join_above`, `join_below`: a join at a place, which is first reached with Horiz.
@@ -125,9 +78,7 @@ pub fn join_on(border: &mut [u8], n: usize, x: usize, side: Side) -> usize
     ensures joins_on { JoinsOn side border.old n x border.new result }
 {
     let k = stretch_to(border, n, x + 1);
-    if x < border.len() {
-        border[x] = joined(border[x], side);
-    }
+    change_at(border, x, |segment| side.joined(segment));
     k
 }
 
@@ -138,12 +89,10 @@ pub fn merge_from(border: &mut [u8], n: usize, other: &[u8], pos: usize, side: S
     ensures merges_from { MergesFrom side border.old n other.now pos border.new result }
 {
     let mut k = n;
-    let mut i: usize = 0;
-    while i < other.len() {
-        if joins(other[i], side) {
+    for (i, byte) in other.iter().enumerate() {
+        if side.joins(*byte) {
             k = join_on(border, k, pos + i, side);
         }
-        i += 1;
     }
     k
 }

@@ -7,8 +7,7 @@ use fields::field::{Field, field_at};
 use fields::store::{put_byte, put_bytes, put_head, put_repeat, put_two};
 use places::border::border_parts;
 use rows::RenderOptions;
-use tagged_line::line::{new_line, pad_to};
-use tagged_line::piece::add_pieces;
+use tagged_line::line::Line;
 
 // A text line, filled.
 fn put_text(out: &mut [u8], at: usize, options: RenderOptions, content: &[u8], to: usize) -> usize
@@ -16,8 +15,8 @@ fn put_text(out: &mut [u8], at: usize, options: RenderOptions, content: &[u8], t
     ensures line_in { LineIn at (length content.now) to result }
     ensures puts_text { PutsText out.old at options content.now to out.new result }
 {
-    let laid = add_pieces(out, new_line(at), content, false, false);
-    let line = pad_to(out, laid, to, options.annotation);
+    let laid = Line::new(at).add_pieces(out, content, false, false);
+    let line = laid.pad_to(out, to, options.annotation);
     put_head(out, at, b'L', (line.at - line.base) % 65536);
     line.at
 }

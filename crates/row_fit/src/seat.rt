@@ -5,7 +5,7 @@ ghost use Rattle.row_fit.specs.Seat.{last_join, FindsJoin, LineCrosses, LinesCro
 
 use bodies::body::body_of;
 use bodies::walk::skip_lines;
-use borders::segment::joins_above;
+use borders::border::Side;
 use fields::field::{Field, field_at};
 use holes::cols::{LineCols, larger, line_cols};
 use holes::overlap::overlaps;
@@ -73,7 +73,7 @@ fn join_step(segment: u8, i: usize, n: usize) -> usize
     requires { i < 2 ^ 63 }
     ensures { result ≡ (if joins_above segment then suc i else n) }
 {
-    if joins_above(segment) { i + 1 } else { n }
+    if Side::Above.joins(segment) { i + 1 } else { n }
 }
 
 // How many segments a merge from above reaches: up to the last that joins.

@@ -16,6 +16,7 @@ use Rattle.fields.specs.Widths.{piece_width, width}
 use Rattle.fields.specs.declared.field.Field.TheVariants.{At, Broken, End}
 use Rattle.fields.proofs.Back.{Every}
 use Rattle.fields.proofs.Texts.{rest}
+use Rattle.borders.specs.declared.draw.Drawing.TheVariants.{Segments}
 use Rattle.borders.specs.BorderHoriz.{stretch_to, to_string, drawn, up_to_hole, at_hole, into_tagged_from, border_into_tagged_line}
 use Rattle.borders.proofs.Drawing.{drawn_string}
 use Rattle.rows.specs.declared.RenderOptions.{RenderOptions}
@@ -166,10 +167,10 @@ pub segments_none : (out : List ℕ) (p : Line) (a : ℕ) (segs : List ℕ) (x t
 segments_none out p a segs x to e h k st l g = rw (le-ltb p.cols x (omega arith)) g
 
 pub segments_drawn : (out out' : List ℕ) (p r : Line) (a : ℕ) (segs : List ℕ) (x to : ℕ) → to ≡ x - (x - length segs) → p.cols < to
-    → Draws out p a (part p.cols to segs) 0 false out' r → PushesSegments out p a segs x out' r
+    → Draws out p a (part p.cols to segs) 0 Segments out' r → PushesSegments out p a segs x out' r
 segments_drawn out out' p r a segs x to e h d k st l g =
     let same : to ≡ x = omega arith in
-    let s : drawn false (stretch_to (part p.cols to segs) 0) ≡ to_string (part p.cols x segs) =
+    let s : drawn Segments (stretch_to (part p.cols to segs) 0) ≡ to_string (part p.cols x segs) =
     drawn_string (stretch_to (part p.cols to segs) 0) ∙ ap to_string (stretch_none (part p.cols to segs)) ∙ ap (λ (i : ℕ). to_string (part p.cols i segs)) same in
     rw (lt-ltb p.cols x (omega arith)) (rw (← s) (d st l g))
 

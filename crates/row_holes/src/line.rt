@@ -8,7 +8,7 @@ use bodies::walk::skip_lines;
 use fields::field::{Field, field_at};
 use holes::draw::push_tagged;
 use places::border::border_parts;
-use tagged_line::line::new_line;
+use tagged_line::line::Line;
 
 // Where the pieces of a line stand, and what they are filled to: laid, or in the bytes of the seat.
 #[derive(Clone, Copy)]
@@ -33,7 +33,7 @@ fn lay_border(laid: &mut [u8], letter: u8, content: &[u8], to: usize) -> Through
     ensures lays_border { LaysBorder letter content.now to laid.new result.end }
 {
     let parts = border_parts(letter, content);
-    let line = push_tagged(laid, new_line(0), content, parts.segs, parts.holes, to);
+    let line = push_tagged(laid, Line::new(0), content, parts.segs, parts.holes, to);
     Through {
         laid: true,
         from: 3,

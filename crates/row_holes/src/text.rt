@@ -9,7 +9,7 @@ ghost use Rattle.row_holes.specs.Text.{segments_most, hole_most, PushesSegments,
 
 use bodies::body::body_of;
 use bodies::walk::skip_lines;
-use borders::draw::drawn_len;
+use borders::draw::Drawing;
 use extend_lines::line::Lines;
 use fields::field::{Field, field_at};
 use holes::cols::{line_cols, smaller};
@@ -18,8 +18,7 @@ use long_borders::position::advance;
 use places::border::border_parts;
 use row_lines::long::is_long;
 use slots::seat::{Next, Seat, Slots, next_slot};
-use tagged_line::line::{Line, new_line, push_drawn, push_ws};
-use tagged_line::piece::add_pieces;
+use tagged_line::line::Line;
 
 // The segments of the border from where the text stands up to a column.
 fn push_segments(out: &mut [u8], line: Line, annotation: u8, segs: &[u8], x: usize) -> Line
@@ -32,8 +31,7 @@ fn push_segments(out: &mut [u8], line: Line, annotation: u8, segs: &[u8], x: usi
     if to <= pos {
         return line;
     }
-    let n = drawn_len(&segs[pos..to], false);
-    push_drawn(out, line, annotation, &segs[pos..to], n, 0, false)
+    line.push_drawn(out, annotation, &segs[pos..to], 0, Drawing::Segments)
 }
 
 // The pieces of a text, filled to a width with spaces.
@@ -43,10 +41,10 @@ fn push_text(out: &mut [u8], line: Line, annotation: u8, content: &[u8], to: usi
     ensures pushes_text { PushesText out.old line annotation content.now to out.new result }
 {
     let before = line.cols;
-    let next = add_pieces(out, line, content, true, true);
+    let next = line.add_pieces(out, content, true, true);
     let used = next.cols - before;
     if used < to {
-        return push_ws(out, next, to - used, annotation);
+        return next.push_ws(out, to - used, annotation);
     }
     next
 }
@@ -118,7 +116,7 @@ fn push_seat(
     let p = skip_lines(s, b.at, stop, height);
     if stop <= p {
         let begun = push_segments(out, line, annotation, segs, x);
-        return push_ws(out, begun, width, annotation);
+        return begun.push_ws(out, width, annotation);
     }
     let f = field_at(s, p);
     match f {
@@ -180,7 +178,7 @@ pub fn push_holes(
     ensures out_len_unchanged { (length out.new ≡ length out.old) × LineBegun lines result 8000000 }
     ensures pushes_holes { PushesHoles out.old lines annotation segs.now cells.now sheet.now first collapse height out.new result }
 {
-    let mut line = new_line(lines.at);
+    let mut line = Line::new(lines.at);
     let mut st = first;
     let mut x: usize = 0;
     loop {

@@ -19,6 +19,7 @@ use Rattle.fields.specs.declared.field.Field.{Field}
 use Rattle.fields.specs.declared.field.Field.TheVariants.{At, Broken, End}
 use Rattle.fields.proofs.Back.{Every}
 use Rattle.fields.proofs.Parts.{part_length}
+use Rattle.borders.specs.declared.draw.Drawing.TheVariants.{LinesAbove}
 use Rattle.borders.specs.BorderHoriz.{stretch_to}
 use Rattle.rows.specs.declared.RenderOptions.{RenderOptions}
 use Rattle.fields.specs.TaggedLine.{WellFormedPiece, push_str, push_ws, consume, add_pieces}
@@ -121,7 +122,7 @@ opens_later out out' p r s (suc k) d f st l h = f st l h
 
 -- The lines above a border.
 pub pattern_drawn : (out out' : List ℕ) (p r : Line) (s : RenderOptions) (letter : ℕ) (content : List ℕ) (to : ℕ) (q : Parts) → FindsParts letter content q
-    → Draws out p s.annotation (part q.segs q.holes content) to true out' r → AddsPattern out p s letter content to out' r
+    → Draws out p s.annotation (part q.segs q.holes content) to LinesAbove out' r → AddsPattern out p s letter content to out' r
 pattern_drawn out out' p r s letter content to q f g a segs hs e st l h = rw (sym (f a segs hs e).segments) (g st l h)
 
 -- A border, with its holes.

@@ -6,6 +6,7 @@ use Rattle.fields.specs.Field.{whole, field_at, all}
 use Rattle.fields.specs.declared.field.Field.TheVariants.{At}
 use Rattle.fields.specs.Sheet.{Piece, readable_piece}
 use Rattle.fields.specs.Widths.{width}
+use Rattle.borders.specs.declared.draw.Drawing.TheVariants.{LinesAbove}
 use Rattle.borders.specs.BorderHoriz.{stretch_to, drawn}
 use Rattle.rows.specs.declared.RenderOptions.{RenderOptions}
 use Rattle.fields.specs.TaggedLine.{push_str, consume}
@@ -41,7 +42,7 @@ AddsCellText out p s content to out' r =
 abbrev pub AddsPattern : List ℕ → Line → RenderOptions → ℕ → List ℕ → ℕ → List ℕ → Line → Type 0
 AddsPattern out p s letter content to out' r =
     (a : ℕ) (segs : List ℕ) (hs : List Hole) → read_line (whole letter content) ≡ some (border a segs hs)
-    → (st : List ℕ) (l : List Piece) → Held st l out p → Held st (push_str l s.annotation (drawn true (stretch_to segs to))) out' r
+    → (st : List ℕ) (l : List Piece) → Held st l out p → Held st (push_str l s.annotation (drawn LinesAbove (stretch_to segs to))) out' r
 
 -- a border with its holes, unless they overlap
 abbrev pub AddsBorder : List ℕ → Line → RenderOptions → ℕ → List ℕ → ℕ → List ℕ → Line → Type 0

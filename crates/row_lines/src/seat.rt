@@ -3,13 +3,12 @@ ghost use Rattle.std.specs.Prelude.{◌≡◌, false, ◌<◌, length};
 ghost use Rattle.tagged_line.specs.Held.{Within, LineGrown};
 ghost use Rattle.row_lines.specs.Seat.{seat_most, AddedIn, AddsCellText, AddsPattern, AddsBorder, leaves_pattern, AddsSeat, FindsText, AddsKept, AddsEdge, OpensSeat};
 
-use borders::draw::drawn_len;
+use borders::draw::Drawing;
 use fields::field::{Field, field_at};
 use holes::draw::push_holed;
 use places::border::border_parts;
 use rows::RenderOptions;
-use tagged_line::line::{Line, push_bar, push_drawn, push_str, push_ws};
-use tagged_line::piece::add_pieces;
+use tagged_line::line::Line;
 
 // A line with what a seat gave to it, and the place of the seat's next line.
 #[derive(Clone, Copy)]
@@ -31,10 +30,10 @@ fn add_cell_text(
     ensures adds_cell_text { AddsCellText out.old line options content.now to out.new result }
 {
     let before = line.cols;
-    let next = add_pieces(out, line, content, true, true);
+    let next = line.add_pieces(out, content, true, true);
     let used = next.cols - before;
     if used < to {
-        return push_ws(out, next, to - used, options.annotation);
+        return next.push_ws(out, to - used, options.annotation);
     }
     next
 }
@@ -56,8 +55,7 @@ fn add_pattern(
     let from = parts.segs;
     let end = parts.holes;
     let segs = &content[from..end];
-    let n = drawn_len(segs, true);
-    push_drawn(out, line, options.annotation, segs, n, to, true)
+    line.push_drawn(out, options.annotation, segs, to, Drawing::LinesAbove)
 }
 
 // A border of a seat, with its holes.
@@ -116,7 +114,7 @@ pub fn add_seat(
 {
     if end <= at {
         return Added {
-            line: push_ws(out, line, width, options.annotation),
+            line: line.push_ws(out, width, options.annotation),
             next: at,
         };
     }
@@ -236,9 +234,9 @@ fn add_edge(out: &mut [u8], line: Line, options: RenderOptions) -> Line
     ensures adds_edge { AddsEdge out.old line options out.new result }
 {
     if options.borders {
-        return push_bar(out, line, options.annotation);
+        return line.push_bar(out, options.annotation);
     }
-    push_str(out, line, options.annotation, b" ", 1)
+    line.push_str(out, options.annotation, b" ", 1)
 }
 
 // Before the k-th seat stands an edge, unless it is the first.

@@ -13,6 +13,7 @@ use Rattle.std.specs.Prelude.{if◌then◌else◌}
 use Rattle.fields.specs.TaggedLine.{join, push_str, push, consume, push_ws, insert_front, pad_to}
 use Rattle.fields.proofs.Texts.{text_nil}
 use Rattle.fields.proofs.Back.{Every, every_append, every_replicate, every_all}
+use Rattle.borders.specs.declared.draw.Drawing.TheVariants.{Segments}
 use Rattle.borders.specs.declared.border.Side.{Side}
 use Rattle.borders.specs.BorderSegHoriz.{Horiz}
 use Rattle.borders.specs.BorderHoriz.{new_type, stretch_to, joined_on, joins_from, join_on, merge_from, to_string}
@@ -57,7 +58,7 @@ unfolding readable_text all allowed_in on_list is_control columns_of first_byte 
 fine_edge s = by_if (λ (c : ℕ). Fine (utf8 c)) s.borders (λ _. refl) (λ _. refl)
 
 pub fine_string : (b : List ℕ) → Fine (to_string b)
-fine_string b = rw (← drawn_string b) (drawn_readable false b)
+fine_string b = rw (← drawn_string b) (drawn_readable Segments b)
 
 -- ---- lines
 

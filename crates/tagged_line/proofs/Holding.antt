@@ -1,7 +1,7 @@
 -- The laws of `Held`: text joined to the open piece of a line, text in a new piece, and what the pushes make of these.
 -- Assumes nothing.
 use mathlib.Core.Path.{◌≡◌, refl, sym, ap, ap₂, ◌∙◌}
-use mathlib.Core.Bool.{Bool, false}
+use mathlib.Core.Bool.{false}
 use mathlib.Core.Logic.{◌⊎◌, inl, inr}
 use mathlib.Core.List.{List, [], ◌∷◌, ◌++◌, map, append-nil, append_assoc}
 use Prim.Native.Nat.{ℕ, suc, ◌+◌, ◌-◌, ◌*◌, ◌/◌, ◌%◌, ◌≤◌, ◌<◌}
@@ -17,6 +17,7 @@ use Rattle.fields.specs.Store.{Wrote}
 use Rattle.fields.specs.Widths.{text_width, width}
 use Rattle.fields.proofs.Sets.{sets_append, sets_before, wrote_then}
 use Rattle.borders.specs.BorderSegHoriz.{Horiz}
+use Rattle.borders.specs.declared.draw.Drawing.{Drawing}
 use Rattle.borders.specs.BorderHoriz.{stretch_to, glyph, drawn}
 use Rattle.borders.proofs.Drawing.{glyph_cols, drawn_append, drawn_chars}
 use Rattle.fields.specs.Text.{WellFormed}
@@ -68,7 +69,7 @@ join_other (p ∷ q ∷ ps) b a s t e = ap (λ (l : List Piece). p ∷ l) (join_
 
 -- ---- bytes
 
--- The bytes of two lines stand one after the other.
+-- The bytes of two drawing stand one after the other.
 pub pieces_append : (ps qs : List Piece) → pieces_bytes (ps ++ qs) ≡ pieces_bytes ps ++ pieces_bytes qs
 unfolding pieces_bytes
 pieces_append [] qs = refl
@@ -110,10 +111,10 @@ open_none out p a n c z st l (b ∷ t) out'' h e k w q = absurd (omega arith)
 -- Text at the end of the open piece, whose length is written again.
 pub open_same : (out out' : List ℕ) (p : Line) (a n c m : ℕ) → (n ≡ 0 → ⊥) → p.piece + 4 ≤ p.at → p.annotation ≡ a
     → m + p.piece + 3 ≡ p.at + n → out' ≡ sets out (p.piece + 1) (two (m % 65536))
-    → MakesRoom out p a n c out' (record { base = p.base; at = p.at + n; piece = p.piece; annotation = a; cols = p.cols + c })
+    → MakesRoom out p a n c out' (record { base = p.base; at = p.at + n; piece = p.piece; annotation = p.annotation; cols = p.cols + c })
 unfolding push_str field
 open_same out out' p a n c m z o same em eo st l [] out'' h e k w q = absurd (z (sym e))
-open_same out out' p a n c m z o same em eo st l (b ∷ t) out'' h e k w q = go (h.opened o)
+open_same out out' p a n c m z o same em eo st l (b ∷ t) out'' h e k w q = rw same (go (h.opened o))
   where
     go : (ps : List Piece) × (s : List ℕ) × (l ≡ ps ++ (str p.annotation s ∷ [])) × (p.piece ≡ p.base + length (pieces_bytes ps))
         → Held st (join l a (b ∷ t)) out'' (record { base = p.base; at = p.at + n; piece = p.piece; annotation = a; cols = p.cols + c })
@@ -211,15 +212,15 @@ padded_none out p w a k st l h =
 -- ---- a border's drawing
 
 -- each of so many characters of one column
-ones_width : (lines : Bool) (b : List ℕ) → str_width (map (glyph lines) b) ≡ length b
+ones_width : (drawing : Drawing) (b : List ℕ) → str_width (map (glyph drawing) b) ≡ length b
 unfolding str_width
-ones_width lines [] = refl
-ones_width lines (s ∷ b) = rw (glyph_cols lines s, ones_width lines b) (omega arith)
+ones_width drawing [] = refl
+ones_width drawing (s ∷ b) = rw (glyph_cols drawing s, ones_width drawing b) (omega arith)
 
 -- A border's drawing takes one column a segment.
-pub drawn_width : (lines : Bool) (b : List ℕ) → text_width (drawn lines b) ≡ length b
+pub drawn_width : (drawing : Drawing) (b : List ℕ) → text_width (drawn drawing b) ≡ length b
 unfolding text_width
-drawn_width lines b = rw (drawn_chars lines b) (ones_width lines b)
+drawn_width drawing b = rw (drawn_chars drawing b) (ones_width drawing b)
 
 -- The line goes on by no more than four bytes a column.
 pub drawn_grown : (p r : Line) (n tail k more w : ℕ) → LineGrown p r (4 + (n + tail) + (k + more)) → n ≤ 3 * k → tail ≤ 3 * more → more ≡ w - k
@@ -234,20 +235,20 @@ drawn_grown p r n tail k more w g a b c = record {
 }
 
 -- A border's drawing and its stretch, once there is room for both.
-pub pushed_drawn : (out out' o1 out'' : List ℕ) (p r : Line) (a n tail more w at next : ℕ) (segs : List ℕ) (lines : Bool)
-    → MakesRoom out p a (n + tail) (length segs + more) out' r → n + tail ≤ r.at → n ≡ length (drawn lines segs)
-    → tail ≡ length (drawn lines (replicate more Horiz)) → more ≡ w - length segs
-    → Wrote out' (r.at - tail - n) (drawn lines segs) o1 at → Wrote o1 at (drawn lines (replicate more Horiz)) out'' next
-    → Draws out p a segs w lines out'' r
+pub pushed_drawn : (out out' o1 out'' : List ℕ) (p r : Line) (a n tail more w at next : ℕ) (segs : List ℕ) (drawing : Drawing)
+    → MakesRoom out p a (n + tail) (length segs + more) out' r → n + tail ≤ r.at → n ≡ length (drawn drawing segs)
+    → tail ≡ length (drawn drawing (replicate more Horiz)) → more ≡ w - length segs
+    → Wrote out' (r.at - tail - n) (drawn drawing segs) o1 at → Wrote o1 at (drawn drawing (replicate more Horiz)) out'' next
+    → Draws out p a segs w drawing out'' r
 unfolding stretch_to
-pushed_drawn out out' o1 out'' p r a n tail more w at next segs lines o room en et em w1 w2 st l h =
+pushed_drawn out out' o1 out'' p r a n tail more w at next segs drawing o room en et em w1 w2 st l h =
     let all = segs ++ replicate more Horiz in
-    let t = drawn lines all in
-    let parts : t ≡ drawn lines segs ++ drawn lines (replicate more Horiz) = drawn_append lines segs (replicate more Horiz) in
-    let long : length t ≡ n + tail = ap length parts ∙ length-append (drawn lines segs) (drawn lines (replicate more Horiz)) ∙ omega arith in
+    let t = drawn drawing all in
+    let parts : t ≡ drawn drawing segs ++ drawn drawing (replicate more Horiz) = drawn_append drawing segs (replicate more Horiz) in
+    let long : length t ≡ n + tail = ap length parts ∙ length-append (drawn drawing segs) (drawn drawing (replicate more Horiz)) ∙ omega arith in
     let wide : text_width t ≡ length segs + more =
-    drawn_width lines all ∙ length-append segs (replicate more Horiz) ∙ ap (λ (x : ℕ). length segs + x) (length-replicate more Horiz) in
+    drawn_width drawing all ∙ length-append segs (replicate more Horiz) ∙ ap (λ (x : ℕ). length segs + x) (length-replicate more Horiz) in
     let back : r.at - tail - n ≡ r.at - (n + tail) = omega arith in
     let store : out'' ≡ sets out' (r.at - (n + tail)) t =
     (wrote_then w1 w2).store ∙ ap₂ (λ (x : ℕ) (y : List ℕ). sets out' x y) back (sym parts) in
-    rw (← em) (o st l t out'' h long (map (glyph lines) all, drawn_chars lines all) wide store)
+    rw (← em) (o st l t out'' h long (map (glyph drawing) all, drawn_chars drawing all) wide store)

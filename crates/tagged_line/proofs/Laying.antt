@@ -2,6 +2,7 @@
 -- Assumes nothing.
 use mathlib.Core.Path.{◌≡◌, refl, sym, ap, ap₂, ◌∙◌}
 use mathlib.Core.Bool.{Bool, true, false}
+use mathlib.Core.Logic.{◌⊎◌, inl, inr}
 use mathlib.Core.Option.{none, some}
 use mathlib.Core.List.{List, [], ◌∷◌, ◌++◌, append-nil, append_assoc}
 use Prim.Native.Nat.{ℕ, ◌+◌, ◌-◌, ◌*◌, ◌≤◌, ◌<◌}
@@ -12,13 +13,15 @@ use lib.Seq.{sets, length-take-le}
 use borrow.Author.Tests.{eqb-true, eqb-false, eq-eqb, ne_eqb}
 use Rattle.std.specs.Prelude.{if◌then◌else◌}
 use Rattle.characters.proofs.Tests.{and_left, and_right}
-use Rattle.fields.specs.Field.{field, whole, broken, raws, read_all, all}
+use Rattle.fields.specs.Field.{field, field_at, whole, broken, raws, read_all, all}
 use Rattle.fields.specs.Sheet.{Piece, str, fragment, read_str, read_piece, readable_piece, piece_bytes, pieces_bytes}
 use Rattle.fields.specs.Store.{Wrote}
 use Rattle.fields.specs.Widths.{text_width, piece_width, width}
 use Rattle.fields.proofs.Texts.{rest}
 use Rattle.fields.proofs.Readings.{read_first}
-use Rattle.fields.proofs.Fields.{FieldIs}
+use Rattle.fields.proofs.Fields.{FieldIs, field_is, field_broken, field_end}
+use Rattle.fields.specs.declared.field.Field.{Field}
+use Rattle.fields.specs.declared.field.Field.TheVariants.{At, Broken, End}
 use Rattle.fields.proofs.Back.{every_append}
 use Rattle.fields.proofs.Sets.{sets_append, wrote_then, wrote_none}
 use Rattle.fields.specs.Text.{WellFormed}
@@ -195,6 +198,20 @@ module _ (s : List ℕ) (at : ℕ) (ps : List Piece) (e : PiecesOf (drop at s) p
   unfolding read_all
   none_left b = let k : some [] ≡ some ps = sym (ap (read_all read_piece) b) ∙ e in cc
 
+-- the field that was found at a place
+pub found : (s : List ℕ) {at letter start past : ℕ} {f : Field} → at ≤ length s → f ≡ field_at at (drop at s) → f ≡ At letter start past
+    → FieldIs s at letter start past
+found s {at} {letter} {start} {past} h e k = field_is s at letter start past h (sym e ∙ k)
+
+-- where no field was found, a rest that is none is left, or nothing
+abbrev pub Ended : List ℕ → Type 0
+Ended rest = (raws rest ≡ broken ∷ []) ⊎ (raws rest ≡ [])
+
+pub ended : (s : List ℕ) (at : ℕ) (f : Field) → f ≡ field_at at (drop at s) → ((l st nx : ℕ) → f ≡ At l st nx → ⊥) → Ended (drop at s)
+ended s at (At l st nx) e d = absurd (d l st nx refl)
+ended s at Broken e d = inl (field_broken s at (sym e))
+ended s at End e d = inr (field_end s at (sym e))
+
 -- the size of a field's content
 pub content_size : (s : List ℕ) (at letter start past : ℕ) → FieldIs s at letter start past
     → length (take (past - start) (drop start s)) + start ≡ past
@@ -243,13 +260,10 @@ module _ (out₀ : List ℕ) (place : ℕ) (s out : List ℕ) (to at : ℕ) (w :
             );
       }
 
-  -- a rest that is no field
-  pub copy_broken : raws (drop at s) ≡ broken ∷ [] → Copies out₀ place s out to
-  copy_broken b ps e = let (qs, rs, er, eq, u) = w.left ps e in absurd (none_broken s at rs er b)
-
-  -- past the last
-  pub copy_end : raws (drop at s) ≡ [] → Copies out₀ place s out to
-  copy_end b ps e =
+  -- past the last: no content that was read ends in a rest that is no field
+  pub copy_end : Ended (drop at s) → Copies out₀ place s out to
+  copy_end (inl b) ps e = let (qs, rs, er, eq, u) = w.left ps e in absurd (none_broken s at rs er b)
+  copy_end (inr b) ps e =
       let (qs, rs, er, eq, u) = w.left ps e in
       let all : qs ≡ ps = sym (append-nil qs) ∙ ap (λ (x : List Piece). qs ++ x) (sym (none_left s at rs er b)) ∙ eq in
       rw (← all) u
@@ -333,14 +347,11 @@ module _ (out₀ : List ℕ) (p₀ : Line) (s : List ℕ) (joins rejoins : Bool)
             );
       }
 
-  -- a rest that is no field
-  pub lay_broken : raws (drop at s) ≡ broken ∷ [] → AddsPieces out₀ p₀ s joins rejoins out p
-  lay_broken b ps e ok st l h = let (m, rs, er, okr, eq, hm) = w.left ps e ok st l h in absurd (none_broken s at rs er b)
-
   -- past the last
-  pub lay_end : raws (drop at s) ≡ [] → AddsPieces out₀ p₀ s joins rejoins out p
+  pub lay_end : Ended (drop at s) → AddsPieces out₀ p₀ s joins rejoins out p
   unfolding add_pieces
-  lay_end b ps e ok st l h =
+  lay_end (inl b) ps e ok st l h = let (m, rs, er, okr, eq, hm) = w.left ps e ok st l h in absurd (none_broken s at rs er b)
+  lay_end (inr b) ps e ok st l h =
       let (m, rs, er, okr, eq, hm) = w.left ps e ok st l h in
       let done : m ≡ add_pieces joins rejoins l ps = ap (add_pieces join rejoins m) (sym (none_left s at rs er b)) ∙ eq in
       rw (← done) hm

@@ -1,10 +1,11 @@
 -- A line that is being written into a store, and what each push does to it.
 -- Assumes nothing: these are definitions.
-use Rattle.std.specs.Prelude.{◌≡◌, Bool, List, [], ◌∷◌, ◌++◌, ℕ, ◌+◌, ◌-◌, ◌^◌, ◌≤◌, ◌<◌, length}
+use Rattle.std.specs.Prelude.{◌≡◌, List, [], ◌∷◌, ◌++◌, ℕ, ◌+◌, ◌-◌, ◌^◌, ◌≤◌, ◌<◌, length}
 use Rattle.std.proofs.lemmas.List.Edits.{sets}
 use Rattle.fields.specs.Sheet.{Piece, str, pieces_bytes}
 use Rattle.fields.specs.Widths.{text_width, width}
 use Rattle.fields.proofs.Back.{Every}
+use Rattle.borders.specs.declared.draw.Drawing.{Drawing}
 use Rattle.borders.specs.BorderHoriz.{drawn, stretch_to}
 use Rattle.fields.specs.Text.{WellFormed}
 use Rattle.fields.specs.TaggedLine.{WellFormedPiece, join, push_str, push_ws, pad_to}
@@ -66,6 +67,6 @@ abbrev pub Pads : List ℕ → Line → ℕ → ℕ → List ℕ → Line → Ty
 Pads out p w a out' r = (st : List ℕ) (l : List Piece) → Held st l out p → Held st (pad_to l w a) out' r
 
 -- a border's drawing, stretched, is pushed
-abbrev pub Draws : List ℕ → Line → ℕ → List ℕ → ℕ → Bool → List ℕ → Line → Type 0
-Draws out p a segs w lines out' r =
-    (st : List ℕ) (l : List Piece) → Held st l out p → Held st (push_str l a (drawn lines (stretch_to segs w))) out' r
+abbrev pub Draws : List ℕ → Line → ℕ → List ℕ → ℕ → Drawing → List ℕ → Line → Type 0
+Draws out p a segs w drawing out' r =
+    (st : List ℕ) (l : List Piece) → Held st l out p → Held st (push_str l a (drawn drawing (stretch_to segs w))) out' r

@@ -3,93 +3,83 @@ ghost use Rattle.std.specs.Prelude.{◌≡◌, ◌+◌, ◌*◌, ◌^◌, ◌≤
 ghost use Rattle.tagged_line.specs.Held.{Within, LineGrown};
 ghost use Rattle.tagged_line.specs.Pieces.{AddsFragment, AddsTextPiece, AddsPiece, AddsPieces, Copies};
 
-use crate::line::{Line, push_str};
+use crate::line::Line;
 use fields::field::{Field, field_at};
 use fields::store::put_field;
 use fields::width::text_width;
 
-// A name: an F field as it stands, after which no piece of text is open.
-fn add_fragment(out: &mut [u8], line: Line, name: &[u8]) -> Line
-    requires { Within line (4 + 2 * length name.now) × (length name.now < 65536) }
-    ensures line_grown { LineGrown line result (3 + length name.now) }
-    ensures adds_fragment { AddsFragment out.old line name.now out.new result }
-{
-    let end = put_field(out, line.at, b'F', name);
-    Line {
-        base: line.base,
-        at: end,
-        piece: end,
-        annotation: line.annotation,
-        cols: line.cols,
-    }
-}
-
-// The content of an S field: pushed, or put after the others as it stands. What is no S field's content adds nothing.
-fn add_text_piece(out: &mut [u8], line: Line, content: &[u8], joins: bool) -> Line
-    requires { Within line (4 + 3 * length content.now) × (length content.now < 65536) }
-    ensures line_grown { LineGrown line result (3 + 3 * length content.now) }
-    ensures adds_text_piece { AddsTextPiece out.old line content.now joins out.new result }
-{
-    if content.len() < 2 {
-        return line;
-    }
-    let annotation = content[0];
-    let cols = text_width(&content[1..]);
-    if joins {
-        return push_str(out, line, annotation, &content[1..], cols);
-    }
-    let at = line.at;
-    let end = put_field(out, at, b'S', content);
-    Line {
-        base: line.base,
-        at: end,
-        piece: at,
-        annotation,
-        cols: line.cols + cols,
-    }
-}
-
-// One field of a line: a text, or a name.
-fn add_piece(out: &mut [u8], line: Line, letter: u8, content: &[u8], joins: bool) -> Line
-    requires { Within line (4 + 3 * length content.now) × (length content.now < 65536) }
-    ensures line_grown { LineGrown line result (3 + 3 * length content.now) }
-    ensures adds_piece { AddsPiece out.old line letter content.now joins out.new result }
-{
-    if letter == b'S' {
-        return add_text_piece(out, line, content, joins);
-    }
-    add_fragment(out, line, content)
-}
-
-// The pieces of a line's content: the first pushed, or put as it stands, and those after it.
-// With both flags it is `consume`; with the first alone a line behind its prefix.
-pub fn add_pieces(out: &mut [u8], line: Line, content: &[u8], joins: bool, rejoins: bool) -> Line
-    requires { Within line (4 + 3 * length content.now) × (length content.now < 65536) }
-    ensures line_grown { LineGrown line result (3 * length content.now) }
-    ensures adds_pieces { AddsPieces out.old line content.now joins rejoins out.new result }
-{
-    let mut next = line;
-    let mut join = joins;
-    let mut at: usize = 0;
-    loop {
-        let f = field_at(content, at);
-        match f {
-            Field::At {
-                letter,
-                start,
-                next: past,
-            } => {
-                next = add_piece(out, next, letter, &content[start..past], join);
-                join = rejoins;
-                at = past;
-            }
-            Field::Broken => {
-                return next;
-            }
-            Field::End => {
-                return next;
-            }
+impl Line {
+    // A name: an F field as it stands, after which no piece of text is open.
+    fn add_fragment(self, out: &mut [u8], name: &[u8]) -> Line
+        requires { Within self (4 + 2 * length name.now) × (length name.now < 65536) }
+        ensures line_grown { LineGrown self result (3 + length name.now) }
+        ensures adds_fragment { AddsFragment out.old self name.now out.new result }
+    {
+        let end = put_field(out, self.at, b'F', name);
+        Line {
+            at: end,
+            piece: end,
+            ..self
         }
+    }
+
+    // The content of an S field: pushed, or put after the others as it stands. What is no S field's content adds nothing.
+    fn add_text_piece(self, out: &mut [u8], content: &[u8], joins: bool) -> Line
+        requires { Within self (4 + 3 * length content.now) × (length content.now < 65536) }
+        ensures line_grown { LineGrown self result (3 + 3 * length content.now) }
+        ensures adds_text_piece { AddsTextPiece out.old self content.now joins out.new result }
+    {
+        if content.len() < 2 {
+            return self;
+        }
+        let annotation = content[0];
+        let cols = text_width(&content[1..]);
+        if joins {
+            return self.push_str(out, annotation, &content[1..], cols);
+        }
+        Line {
+            at: put_field(out, self.at, b'S', content),
+            piece: self.at,
+            annotation,
+            cols: self.cols + cols,
+            ..self
+        }
+    }
+
+    // One field of a line: a text, or a name.
+    fn add_piece(self, out: &mut [u8], letter: u8, content: &[u8], joins: bool) -> Line
+        requires { Within self (4 + 3 * length content.now) × (length content.now < 65536) }
+        ensures line_grown { LineGrown self result (3 + 3 * length content.now) }
+        ensures adds_piece { AddsPiece out.old self letter content.now joins out.new result }
+    {
+        if letter == b'S' {
+            self.add_text_piece(out, content, joins)
+        } else {
+            self.add_fragment(out, content)
+        }
+    }
+
+    // The pieces of a line's content: the first pushed, or put as it stands, and those after it.
+    // With both flags it is `consume`; with the first alone a line behind its prefix.
+    pub fn add_pieces(self, out: &mut [u8], content: &[u8], joins: bool, rejoins: bool) -> Line
+        requires { Within self (4 + 3 * length content.now) × (length content.now < 65536) }
+        ensures line_grown { LineGrown self result (3 * length content.now) }
+        ensures adds_pieces { AddsPieces out.old self content.now joins rejoins out.new result }
+    {
+        let mut line = self;
+        let mut join = joins;
+        let mut at = 0;
+        while let Field::At {
+            letter,
+            start,
+            next,
+        } = field_at(content, at)
+        {
+            line = line.add_piece(out, letter, &content[start..next], join);
+            join = rejoins;
+            at = next;
+        }
+        line
     }
 }
 
@@ -100,24 +90,15 @@ pub fn copy_pieces(out: &mut [u8], place: usize, content: &[u8]) -> usize
     ensures copies { Copies out.old place content.now out.new result }
 {
     let mut to = place;
-    let mut at: usize = 0;
-    loop {
-        let f = field_at(content, at);
-        match f {
-            Field::At {
-                letter,
-                start,
-                next,
-            } => {
-                to = put_field(out, to, letter, &content[start..next]);
-                at = next;
-            }
-            Field::Broken => {
-                return to;
-            }
-            Field::End => {
-                return to;
-            }
-        }
+    let mut at = 0;
+    while let Field::At {
+        letter,
+        start,
+        next,
+    } = field_at(content, at)
+    {
+        to = put_field(out, to, letter, &content[start..next]);
+        at = next;
     }
+    to
 }

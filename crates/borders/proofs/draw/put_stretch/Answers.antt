@@ -8,17 +8,17 @@ use Rattle.borders.proofs.draw.put_stretch.Goals as goal
 
 pub loop-i-init : goal.loop-i-init
 loop-i-init c =
-    (search rules, search rules, search rules, wrote_none c.args.lines c.args.out.now c.args.at)
+    (search rules, search rules, wrote_none c.args.drawing c.args.out.now c.args.at)
 
 pub returns-then-out-to : goal.returns-then-out-to
 returns-then-out-to c =
-    horiz_full c.args.lines c.args.k c.loop-i.i c.loop-i.invariant.0 c.loop-i.invariant.3 (omega (arith, c.loop-i.invariant.1, c.if-out-to.true)) c.stretch_len.ensures.value
+    horiz_full c.args.drawing c.args.k c.loop-i.i (search rules) c.loop-i.invariant.2 (omega (arith, c.loop-i.invariant.0, c.if-out-to.true)) c.stretch_len.ensures.value
 
 pub loop-i-preserved : goal.loop-i-preserved
 loop-i-preserved c =
-    (search rules, search rules, omega (arith, c.loop-i.invariant.2, c.put_glyph-to.ensures.place, glyph_most c.args.lines Horiz), horiz_wrote c.args.lines c.loop-i.i c.loop-i.invariant.3 c.put_glyph-to.ensures)
+    (search rules, omega (arith, c.loop-i.invariant.1, c.put_glyph-to.ensures.place, glyph_most c.args.drawing Horiz), horiz_wrote c.args.drawing c.loop-i.i c.loop-i.invariant.2 c.put_glyph-to.ensures)
 
 pub returns : goal.returns
 returns c =
     let e : c.loop-i.i ≡ c.args.k = search rules in
-    rw (← e) c.loop-i.invariant.3
+    rw (← e) c.loop-i.invariant.2

@@ -9,4 +9,4 @@ overflow_mul-result c =
 
 pub returns : goal.returns
 returns c =
-    record { upper_bound = three_most c.args.k c.glyph_len.ensures.upper_bound; value = horiz_length c.args.lines c.args.k c.glyph_len.ensures.value }
+    record { upper_bound = three_most c.args.k c.glyph_len.ensures.upper_bound; value = horiz_length c.args.drawing c.args.k c.glyph_len.ensures.value }

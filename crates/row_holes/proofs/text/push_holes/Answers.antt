@@ -8,7 +8,7 @@ use Rattle.row_holes.proofs.text.push_holes.Goals as goal
 
 pub loop-st-init : goal.loop-st-init
 loop-st-init c =
-    text_start _ _ c.args.annotation _ _ _ _ c.args.collapse c.args.height _ (start_new c.args.lines _ c.new_line-line.ensures) c.requires.2
+    text_start _ _ c.args.annotation _ _ _ _ c.args.collapse c.args.height _ (start_new c.args.lines _ c.new-line.ensures) c.requires.2
 
 pub is_long-requires : goal.is_long-requires
 is_long-requires c =
@@ -16,7 +16,7 @@ is_long-requires c =
 
 pub returns-then-is_long : goal.returns-then-is_long
 returns-then-is_long c =
-    record { out_len_unchanged = (c.loop-st.invariant.size, begun_there c.args.lines _ _ c.new_line-line.ensures (long_begun _ _ c.args.annotation _ _ _ _ c.args.collapse c.args.height _ _ _ _ c.loop-st.invariant)); pushes_holes = text_long _ _ c.args.annotation _ _ _ _ c.args.collapse c.args.height _ _ _ _ c.loop-st.invariant (sym c.is_long.ensures ∙ c.if-is_long.true) }
+    record { out_len_unchanged = (c.loop-st.invariant.size, begun_there c.args.lines _ _ c.new-line.ensures (long_begun _ _ c.args.annotation _ _ _ _ c.args.collapse c.args.height _ _ _ _ c.loop-st.invariant)); pushes_holes = text_long _ _ c.args.annotation _ _ _ _ c.args.collapse c.args.height _ _ _ _ c.loop-st.invariant (sym c.is_long.ensures ∙ c.if-is_long.true) }
 
 pub next_slot-found-requires : goal.next_slot-found-requires
 next_slot-found-requires c =
@@ -24,7 +24,7 @@ next_slot-found-requires c =
 
 pub push_one-line-requires : goal.push_one-line-requires
 push_one-line-requires c =
-    (text_room _ _ c.args.annotation _ _ _ _ c.args.collapse c.args.height _ _ _ _ c.loop-st.invariant (start_low c.args.lines _ c.new_line-line.ensures c.requires.0), c.requires.1, (subst (NextIn _ _ _) c.in-Is.is c.next_slot-found.ensures.next_in).seat_in)
+    (text_room _ _ c.args.annotation _ _ _ _ c.args.collapse c.args.height _ _ _ _ c.loop-st.invariant (start_low c.args.lines _ c.new-line.ensures c.requires.0), c.requires.1, (subst (NextIn _ _ _) c.in-Is.is c.next_slot-found.ensures.next_in).seat_in)
 
 pub overflow_add-seat : goal.overflow_add-seat
 overflow_add-seat c =
@@ -44,8 +44,8 @@ loop-st-preserved c =
 
 pub push_segments-requires : goal.push_segments-requires
 push_segments-requires c =
-    (text_last _ _ c.args.annotation _ _ _ _ c.args.collapse c.args.height _ _ _ _ c.loop-st.invariant (start_low c.args.lines _ c.new_line-line.ensures c.requires.0), c.requires.1)
+    (text_last _ _ c.args.annotation _ _ _ _ c.args.collapse c.args.height _ _ _ _ c.loop-st.invariant (start_low c.args.lines _ c.new-line.ensures c.requires.0), c.requires.1)
 
 pub returns-in-NoMore : goal.returns-in-NoMore
 returns-in-NoMore c =
-    record { out_len_unchanged = (search rules, begun_there c.args.lines _ _ c.new_line-line.ensures (end_begun _ _ c.args.annotation _ _ _ _ c.args.collapse c.args.height _ _ _ _ c.loop-st.invariant _ c.push_segments.ensures.line_grown)); pushes_holes = text_end _ _ c.args.annotation _ _ _ _ c.args.collapse c.args.height _ _ _ _ c.loop-st.invariant _ _ _ (subst (FindsNext _ _ _) c.in-NoMore.is c.next_slot-found.ensures.finds_next) c.push_segments.ensures.pushes_segments }
+    record { out_len_unchanged = (search rules, begun_there c.args.lines _ _ c.new-line.ensures (end_begun _ _ c.args.annotation _ _ _ _ c.args.collapse c.args.height _ _ _ _ c.loop-st.invariant _ c.push_segments.ensures.line_grown)); pushes_holes = text_end _ _ c.args.annotation _ _ _ _ c.args.collapse c.args.height _ _ _ _ c.loop-st.invariant _ _ _ (subst (FindsNext _ _ _) c.in-NoMore.is c.next_slot-found.ensures.finds_next) c.push_segments.ensures.pushes_segments }

@@ -1,8 +1,6 @@
-use mathlib.Core.Path.{sym, ◌∙◌}
 use native.Mathlib.Omega.{arith}
 use borrow.Author.Rules.{rules}
-use Rattle.fields.proofs.Fields.{FieldIs, field_is, field_broken, field_end}
-use Rattle.tagged_line.proofs.Laying.{content_size, copy_start, copy_on, copy_broken, copy_end}
+use Rattle.tagged_line.proofs.Laying.{found, ended, content_size, copy_start, copy_on, copy_end}
 use Rattle.tagged_line.proofs.piece.copy_pieces.Goals as goal
 
 pub loop-letter-init : goal.loop-letter-init
@@ -11,41 +9,38 @@ loop-letter-init c =
 
 pub slice_bounds-put_field-count : goal.slice_bounds-put_field-count
 slice_bounds-put_field-count c =
-    let found : FieldIs c.args.content.now c.loop-letter.at c.in-At.letter c.in-At.start c.in-At.next = field_is _ _ _ _ _ c.loop-letter.invariant.inside (sym c.field_at-f.ensures.value ∙ c.in-At.is) in
-    (found).order
+    let r = found c.args.content.now c.loop-letter.invariant.inside c.field_at.ensures.value c.in-At.is in
+    r.order
 
 pub slice_bounds-put_field-start : goal.slice_bounds-put_field-start
 slice_bounds-put_field-start c =
-    let found : FieldIs c.args.content.now c.loop-letter.at c.in-At.letter c.in-At.start c.in-At.next = field_is _ _ _ _ _ c.loop-letter.invariant.inside (sym c.field_at-f.ensures.value ∙ c.in-At.is) in
-    let r = found in omega (arith, r.order, r.inside)
+    let r = found c.args.content.now c.loop-letter.invariant.inside c.field_at.ensures.value c.in-At.is in
+    omega (arith, r.order, r.inside)
 
 pub slice_bounds-put_field-end : goal.slice_bounds-put_field-end
 slice_bounds-put_field-end c =
-    let found : FieldIs c.args.content.now c.loop-letter.at c.in-At.letter c.in-At.start c.in-At.next = field_is _ _ _ _ _ c.loop-letter.invariant.inside (sym c.field_at-f.ensures.value ∙ c.in-At.is) in
-    let r = found in omega (arith, r.order, r.inside)
+    let r = found c.args.content.now c.loop-letter.invariant.inside c.field_at.ensures.value c.in-At.is in
+    omega (arith, r.order, r.inside)
 
 pub put_field-to-requires : goal.put_field-to-requires
 put_field-to-requires c =
-    let found : FieldIs c.args.content.now c.loop-letter.at c.in-At.letter c.in-At.start c.in-At.next = field_is _ _ _ _ _ c.loop-letter.invariant.inside (sym c.field_at-f.ensures.value ∙ c.in-At.is) in
-    let r = found in
+    let r = found c.args.content.now c.loop-letter.invariant.inside c.field_at.ensures.value c.in-At.is in
     let n = content_size _ _ _ _ _ r in
     (omega (arith, n, r.begins, r.inside, c.loop-letter.invariant.moved, c.requires.0), omega (arith, n, r.inside, c.requires.1))
 
 pub loop-letter-smaller : goal.loop-letter-smaller
 loop-letter-smaller c =
-    let found : FieldIs c.args.content.now c.loop-letter.at c.in-At.letter c.in-At.start c.in-At.next = field_is _ _ _ _ _ c.loop-letter.invariant.inside (sym c.field_at-f.ensures.value ∙ c.in-At.is) in
-    let r = found in
+    let r = found c.args.content.now c.loop-letter.invariant.inside c.field_at.ensures.value c.in-At.is in
     omega (arith, r.begins, r.order, r.inside)
 
 pub loop-letter-preserved : goal.loop-letter-preserved
 loop-letter-preserved c =
-    let found : FieldIs c.args.content.now c.loop-letter.at c.in-At.letter c.in-At.start c.in-At.next = field_is _ _ _ _ _ c.loop-letter.invariant.inside (sym c.field_at-f.ensures.value ∙ c.in-At.is) in
-    copy_on _ _ _ _ _ _ c.loop-letter.invariant _ _ _ _ _ (found) (search rules) c.put_field-to.ensures
+    let r = found c.args.content.now c.loop-letter.invariant.inside c.field_at.ensures.value c.in-At.is in
+    copy_on _ _ _ _ _ _ c.loop-letter.invariant _ _ _ _ _ r (search rules) c.put_field-to.ensures
 
-pub returns-in-Broken : goal.returns-in-Broken
-returns-in-Broken c =
-    record { lower_bound = (omega (arith, c.loop-letter.invariant.moved), omega (arith, c.loop-letter.invariant.moved, c.loop-letter.invariant.inside)); copies = copy_broken _ _ _ _ _ _ c.loop-letter.invariant (field_broken _ _ (sym c.field_at-f.ensures.value ∙ c.in-Broken.is)) }
-
-pub returns-in-End : goal.returns-in-End
-returns-in-End c =
-    record { lower_bound = (omega (arith, c.loop-letter.invariant.moved), omega (arith, c.loop-letter.invariant.moved, c.loop-letter.invariant.inside)); copies = copy_end _ _ _ _ _ _ c.loop-letter.invariant (field_end _ _ (sym c.field_at-f.ensures.value ∙ c.in-End.is)) }
+pub returns : goal.returns
+returns c =
+    record {
+      lower_bound = (omega (arith, c.loop-letter.invariant.moved), omega (arith, c.loop-letter.invariant.moved, c.loop-letter.invariant.inside));
+      copies = copy_end _ _ _ _ _ _ c.loop-letter.invariant (ended c.args.content.now c.loop-letter.at c.field_at.result c.field_at.ensures.value c.in_default.not-At);
+    }
