@@ -1,8 +1,8 @@
 -- What drawing a border with holes does to the line that it is drawn on.
 -- Assumes nothing: these are definitions.
-use Rattle.std.specs.Prelude.{◌≡◌, Bool, true, false, List, [], ◌∷◌, map, ℕ, ◌+◌, ◌-◌, ◌*◌, ◌≤◌, length}
+use Rattle.std.specs.Prelude.{◌≡◌, Bool, true, false, List, map, ℕ, ◌+◌, ◌-◌, ◌*◌, ◌≤◌, length}
 use Rattle.std.proofs.Math.Option.{some}
-use Rattle.fields.specs.Field.{whole, raws, part, all}
+use Rattle.fields.specs.Field.{whole, part, all}
 use Rattle.fields.specs.Sheet.{Piece, str, read_piece, readable_piece}
 use Rattle.borders.specs.BorderHoriz.{stretch_to, to_string, as_str, into_tagged_from}
 use Rattle.fields.specs.TaggedLine.{push_str, push}

@@ -1,11 +1,8 @@
 -- What `hole_at` finds at a place of a G field's content.
 -- Assumes nothing: these are definitions.
 use Rattle.std.specs.Prelude.{◌≡◌, List, [], ◌∷◌, ℕ, ◌+◌, ◌≤◌, ◌<◌, length, drop}
-use Rattle.std.proofs.Math.Option.{some}
 use Rattle.fields.specs.Field.{whole, part}
-use Rattle.fields.specs.Sheet.{read_piece}
-use Rattle.fields.specs.Spans.{Hole, punched, torn, raw_holes}
-use Rattle.fields.specs.Places.{HolesFrom}
+use Rattle.fields.specs.Spans.{punched, torn, raw_holes}
 use Rattle.places.specs.declared.hole.HoleAt.{HoleAt}
 use Rattle.places.specs.declared.hole.HoleAt.TheVariants.{At, Broken, End}
 

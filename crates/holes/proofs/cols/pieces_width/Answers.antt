@@ -2,9 +2,8 @@
 -- Assumes nothing.
 use mathlib.Core.Path.{sym, ◌∙◌}
 use native.Mathlib.Omega.{arith}
-use Rattle.tagged_line.proofs.Laying.{content_size}
-use Rattle.fields.proofs.Fields.{FieldIs, field_is}
-use Rattle.holes.proofs.WidthLaws.{pass_start, pass_on, pass_last}
+use Rattle.fields.proofs.Fields.{field_is}
+use Rattle.holes.proofs.WidthLaws.{pass_on, pass_last}
 use Rattle.holes.proofs.cols.pieces_width.Goals as goal
 
 pub slice_bounds-piece_cols-count : goal.slice_bounds-piece_cols-count
