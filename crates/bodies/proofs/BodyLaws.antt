@@ -10,10 +10,13 @@ use native.Mathlib.Omega.{arith}
 use lib.Dec.{eqb, leb}
 use lib.ListN.{length, take, drop, get_or, length-append}
 use borrow.Author.Tests.{eq-eqb, ne_eqb, lt-ltb, le-ltb}
+use Rattle.std.proofs.Common.{Option as Maybe, Some, None, unwrap_or}
+use Rattle.std.specs.Prelude.{IfSome}
 use Rattle.characters.proofs.Tests.{by_if, and_left, and_right, clash}
 use Rattle.fields.specs.Field.{whole, raws, field_at, read_all, all, part}
 use Rattle.fields.specs.Sheet.{Piece, read_piece, is_segment}
-use Rattle.fields.specs.declared.field.Field.TheVariants.{At, Broken, End}
+use Rattle.fields.specs.declared.field.Field.{Field}
+use Rattle.fields.specs.declared.field.Field.TheVariants.{At}
 use Rattle.rows.proofs.Reading.{OnSome, some_of}
 use Rattle.fields.specs.Spans.{Hole, RenderLine, text, border, ends_within, holed, read_holes, raw_holes, read_holed, read_border, read_line, readable_line, readable_lines}
 use Rattle.rows.specs.SubRenderer.{is_border, starts_border, top, without_top, bottom, without_bottom}
@@ -22,7 +25,8 @@ use Rattle.fields.specs.Places.{LinesAt}
 use Rattle.bodies.specs.Walk.{PassesTop, TellsTop, LastLine, none_there, last_there, unholed, Walks}
 use Rattle.bodies.specs.Body.{BottomAt, FindsBody}
 use Rattle.bodies.specs.declared.walk.Walked.{Walked}
-use Rattle.bodies.proofs.LineLaws.{line_by_size, no_lines_lem, first_line, line_broken, line_end_lem, lines_nil}
+use Rattle.bodies.proofs.FieldLaws.{size_at}
+use Rattle.bodies.proofs.LineLaws.{line_by_size, no_lines_lem, first_line, line_missing, lines_nil}
 
 -- ---- what a line is
 
@@ -117,31 +121,20 @@ pub top_past : (s : List ℕ) (from to letter start next : ℕ) → from < to �
 top_past s from to l st nx h e k ls c = absurd (omega (arith, (first_line s from to l st nx ls h e c).fits))
 
 -- A field is found before the second place.
-pub top_broken : (s : List ℕ) (from to : ℕ) → from < to → field_at from (drop from s) ≡ Broken → PassesTop s from to from
-top_broken s from to h e ls c = absurd (line_broken s from to ls h c e)
-
-pub top_end : (s : List ℕ) (from to : ℕ) → from < to → field_at from (drop from s) ≡ End → PassesTop s from to from
-top_end s from to h e ls c = absurd (line_end_lem s from to ls h c e)
+pub top_missing : (s : List ℕ) (from to : ℕ) (f : Field) → from < to → f ≡ field_at from (drop from s) → ((l st nx : ℕ) → f ≡ At l st nx → ⊥)
+    → PassesTop s from to from
+top_missing s from to f h e n ls c = absurd (line_missing s from to ls f h c e n)
 
 -- No lines do not start with a border.
 pub tells_none : (s : List ℕ) (from to : ℕ) → to ≤ from → TellsTop s from to false
 tells_none s from to h ls c = rw (no_lines_lem s from to ls h c)
 
--- Lines stand inside the bytes.
-pub tells_outside : (s : List ℕ) (from to : ℕ) → from < to → length s ≤ from → TellsTop s from to false
-tells_outside s from to h k ls c = absurd (omega (arith, c.inside))
-
--- A text does not.
-pub tells_text : (s : List ℕ) (from to : ℕ) → from < to → get_or s from 0 ≡ 0x4C → TellsTop s from to false
-tells_text s from to h k ls c =
+-- A first line is a border unless its letter is L. Lines stand inside the bytes.
+pub tells_first : (s : List ℕ) (from to : ℕ) (r : Bool) → from < to → (from < length s → r ≡ not (eqb (get_or s from 0) 0x4C)) → TellsTop s from to r
+tells_first s from to r h k ls c =
     let f = line_by_size s from to ls h c in
-    sym (ap (λ (z : List RenderLine). starts_border z) f.are ∙ line_text (get_or s from 0) _ f.one f.reads k)
-
--- Another line does.
-pub tells_border : (s : List ℕ) (from to : ℕ) → from < to → (get_or s from 0 ≡ 0x4C → ⊥) → TellsTop s from to true
-tells_border s from to h k ls c =
-    let f = line_by_size s from to ls h c in
-    sym (ap (λ (z : List RenderLine). starts_border z) f.are ∙ line_border (get_or s from 0) _ f.one f.reads k)
+    k (omega (arith, c.inside))
+    ∙ sym (ap (λ (z : List RenderLine). starts_border z) f.are ∙ line_kind (get_or s from 0) (part (from + 3) (from + 3 + size_at s from) s) f.one f.reads)
 
 -- ---- a last border
 
@@ -201,14 +194,20 @@ body_plain s at end collapse w e f x c =
     let q = f x.lines c in
     rw e (record { lines_at = c; count_is = q.count_is; bottom_at = refl; plain = q.plain })
 
+-- of a last line, if there is one
+kept_last : (s : List ℕ) (end : ℕ) (last : Maybe ℕ) → IfSome last (λ r. get_or s r 0 ≡ 0x4C) → unwrap_or last end < end
+    → get_or s (unwrap_or last end) 0 ≡ 0x4C
+kept_last s end None k h = absurd (omega arith)
+kept_last s end (Some r) k h = k
+
 -- A collapsed cell that ends in text, or has no lines.
 pub body_kept : (s : List ℕ) (at end from : ℕ) (collapse : Bool) (w : Walked) → collapse ≡ true → PassesTop s at end from → Walks s from end w
-    → (w.last < end → get_or s w.last 0 ≡ 0x4C) → FindsBody s at end collapse (record { at = from; end = end; stop = end; count = w.count; holed = w.holed })
+    → IfSome w.last (λ r. get_or s r 0 ≡ 0x4C) → FindsBody s at end collapse (record { at = from; end = end; stop = end; count = w.count; holed = w.holed })
 unfolding column_of
 body_kept s at end from collapse w e p f k x c =
     let g = (p x.lines c).goes in
     let i = f (without_top x.lines) g in
-    let q = kept_of s from end w.last (without_top x.lines) i.last_is k in
+    let q = kept_of s from end (unwrap_or w.last end) (without_top x.lines) i.last_is (kept_last s end w.last k) in
     rw (e, q.same, q.nothing) (record { lines_at = g; count_is = i.count_is; bottom_at = refl; plain = i.plain })
 
 -- lines that end in a border
@@ -236,14 +235,16 @@ off_of s at to last count ms (last_there x before l e d a r) h k n =
     rw e (off_border s at last to count before l (line_border (get_or s last 0) (part (last + 3) to s) l r k) x d a (n ∙ ap length e))
 
 -- A collapsed cell that ends in a border.
-pub body_off : (s : List ℕ) (at end from : ℕ) (collapse : Bool) (w : Walked) → collapse ≡ true → PassesTop s at end from → Walks s from end w
-    → w.last < end → (get_or s w.last 0 ≡ 0x4C → ⊥) → FindsBody s at end collapse (record { at = from; end = w.last; stop = end; count = w.count - 1; holed = w.holed })
+pub body_off : (s : List ℕ) (at end from : ℕ) (collapse : Bool) (w : Walked) (last : ℕ) → collapse ≡ true → PassesTop s at end from → Walks s from end w
+    → w.last ≡ Some last → last < end → (get_or s last 0 ≡ 0x4C → ⊥)
+    → FindsBody s at end collapse (record { at = from; end = last; stop = end; count = w.count - 1; holed = w.holed })
 unfolding column_of
-body_off s at end from collapse w e p f h k x c =
+body_off s at end from collapse w last e p f o h k x c =
     let ms = without_top x.lines in
     let g = (p x.lines c).goes in
     let i = f ms g in
-    let q = off_of s from end w.last w.count ms i.last_is h k i.count_is in
+    let there : LastLine s from end last ms = rw o at i.last_is in
+    let q = off_of s from end last w.count ms there h k i.count_is in
     rw e
     (record {
       lines_at = q.lines_at;

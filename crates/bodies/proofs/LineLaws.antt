@@ -10,9 +10,12 @@ use native.Mathlib.Omega.{arith}
 use lib.Dec.{eqb}
 use lib.ListN.{length, take, drop, get_or, length-append, length-drop, drop_of_length-le}
 use lib.Seq.{drop-drop}
+use Rattle.std.proofs.Common.{Option as Maybe, Some, None, unwrap_or}
+use Rattle.std.specs.Prelude.{IfSome}
 use Rattle.characters.proofs.Tests.{by_if, lt_or_le, or_left, or_right, and_left, and_right, clash}
 use Rattle.fields.specs.Field.{Raw, whole, broken, raws, field_at, read_all, all, part}
 use Rattle.fields.specs.Sheet.{Piece, read_piece, is_segment}
+use Rattle.fields.specs.declared.field.Field.{Field}
 use Rattle.fields.specs.declared.field.Field.TheVariants.{At, Broken, End}
 use Rattle.fields.proofs.Readings.{read_first, read_none, read_on}
 use Rattle.fields.proofs.Fields.{raws_nil, at_field}
@@ -153,6 +156,13 @@ line_end_lem s at to ls h c e =
     let g = line_by_size s at to ls h c in
     no_end (sym e ∙ sym (at_field s at (size_at s at) (omega (arith, g.fits, c.inside)) refl (omega (arith, g.fits, c.inside))))
 
+-- No line stands where no field is found.
+pub line_missing : (s : List ℕ) (at to : ℕ) (ls : List RenderLine) (f : Field) → at < to → LinesAt s at to ls → f ≡ field_at at (drop at s)
+    → ((l st nx : ℕ) → f ≡ At l st nx → ⊥) → ⊥
+line_missing s at to ls (At l st nx) h c e n = n l st nx refl
+line_missing s at to ls Broken h c e n = line_broken s at to ls h c (sym e)
+line_missing s at to ls End h c e n = line_end_lem s at to ls h c (sym e)
+
 -- ---- lines without holes
 
 unholed_text : (o : Option (List Piece)) → OnSome (λ (l : RenderLine). unholed l ≡ true) (map text o)
@@ -253,27 +263,22 @@ last_found s from to at last ls before e d (none_yet x y) = none_there x (d ∙ 
 last_found s from to at last ls before e d (one_at h earlier l x y a z) = last_there (rw e at h) earlier l (d ∙ x) y (rw e at a) (rw e at z)
 
 -- Past the last line.
-pub passes_end : (s : List ℕ) (from to at last count : ℕ) (holed : Bool) → Passes s from to at last count holed → to ≤ at
-    → Walks s from to (record { last = last; count = count; holed = holed })
-passes_end s from to at last count holed inv h ls c =
+pub passes_end : (s : List ℕ) (from to at : ℕ) (w : Walked) → Passes s from to at (unwrap_or w.last to) w.count w.holed → to ≤ at → Walks s from to w
+passes_end s from to at w inv h ls c =
     let p = inv ls c in
     let e : at ≡ to = omega (arith, p.ahead.order) in
     let n : p.after ≡ [] = no_lines_lem s at to p.after h p.ahead in
     let d : ls ≡ p.before = p.are ∙ ap (λ (z : List RenderLine). p.before ++ z) n ∙ append-nil p.before in
     record {
-      last_is = last_found s from to at last ls p.before e d p.last_is;
+      last_is = last_found s from to at (unwrap_or w.last to) ls p.before e d p.last_is;
       count_is = p.counts ∙ ap length (sym d);
       plain = λ k. ap (λ (z : List RenderLine). all unholed z) d ∙ p.bare k;
     }
 
 -- No field is found before the second place: there are no lines then.
-pub passes_broken : (s : List ℕ) (from to at last count : ℕ) (holed : Bool) (w : Walked) → Passes s from to at last count holed → at < to
-    → field_at at (drop at s) ≡ Broken → Walks s from to w
-passes_broken s from to at last count holed w inv h e ls c = absurd (line_broken s at to _ h (inv ls c).ahead e)
-
-pub passes_ended : (s : List ℕ) (from to at last count : ℕ) (holed : Bool) (w : Walked) → Passes s from to at last count holed → at < to
-    → field_at at (drop at s) ≡ End → Walks s from to w
-passes_ended s from to at last count holed w inv h e ls c = absurd (line_end_lem s at to _ h (inv ls c).ahead e)
+pub passes_missing : (s : List ℕ) (from to at last count : ℕ) (holed : Bool) (f : Field) (w : Walked) → Passes s from to at last count holed → at < to
+    → f ≡ field_at at (drop at s) → ((l st nx : ℕ) → f ≡ At l st nx → ⊥) → Walks s from to w
+passes_missing s from to at last count holed f w inv h e n ls c = absurd (line_missing s at to _ f h (inv ls c).ahead e n)
 
 -- numbers of the walk at a place, whatever the bytes
 pub record PassedIn (s : List ℕ) (from to at last count : ℕ) : Type 0 where
@@ -324,31 +329,35 @@ numbers_on s from to at last count l st nx p h f k =
     }
 
 -- At the end.
-pub numbers_end : (s : List ℕ) (from to at last count : ℕ) (holed : Bool) → PassedIn s from to at last count → to ≤ at
-    → WalkedIn s from to (record { last = last; count = count; holed = holed })
-numbers_end s from to at last count holed p h =
+pub numbers_end : (s : List ℕ) (from to at : ℕ) (w : Walked) → PassedIn s from to at (unwrap_or w.last to) w.count → IfSome w.last (λ r. r < to) → to ≤ at
+    → WalkedIn s from to w
+numbers_end s from to at w p t h =
     record {
       last_in =
           record {
             high = p.high;
-            near = ⊎_elim (λ x. omega (arith, p.near x)) (λ x. omega arith) (lt_or_le last to);
+            near = ⊎_elim (λ x. omega (arith, p.near x)) (λ x. omega arith) (lt_or_le (unwrap_or w.last to) to);
             low = p.low;
             inside = p.inside;
             backwards = p.backwards;
           };
       few = p.fewer;
-      some_there = p.some_there;
+      there = counted w.last p.some_there t;
     }
+  where
+    counted : (last : Maybe ℕ) → (unwrap_or last to < to → 1 ≤ w.count) → IfSome last (λ r. r < to) → IfSome last (λ r. (r < to) × (1 ≤ w.count))
+    counted None g k = k
+    counted (Some r) g k = (k, g k)
 
 -- Where no field is found.
-pub numbers_broken : (s : List ℕ) (from to at last count : ℕ) (holed : Bool) → PassedIn s from to at last count
-    → WalkedIn s from to (record { last = to; count = count; holed = holed })
-numbers_broken s from to at last count holed p =
+pub numbers_missing : (s : List ℕ) (from to at last count : ℕ) (holed : Bool) → PassedIn s from to at last count
+    → WalkedIn s from to (record { last = None; count = count; holed = holed })
+numbers_missing s from to at last count holed p =
     record {
       last_in =
           record { high = omega arith; near = omega arith; low = λ h. h; inside = λ h. absurd (omega arith); backwards = λ h. refl };
       few = p.fewer;
-      some_there = λ h. absurd (omega arith);
+      there = tt;
     }
 
 -- ---- the lines from a number on
@@ -380,8 +389,6 @@ skip_past s at end i n p l st nx inv h e k ls c =
     let f = first_line s p end l st nx (drop i ls) h e (inv ls c) in absurd (omega (arith, f.fits))
 
 -- A field is found before the second place.
-pub skip_broken : (s : List ℕ) (at end i n p : ℕ) → SkipsTo s at end i p → p < end → field_at p (drop p s) ≡ Broken → SkipsTo s at end n p
-skip_broken s at end i n p inv h e ls c = absurd (line_broken s p end _ h (inv ls c) e)
-
-pub skip_ended : (s : List ℕ) (at end i n p : ℕ) → SkipsTo s at end i p → p < end → field_at p (drop p s) ≡ End → SkipsTo s at end n p
-skip_ended s at end i n p inv h e ls c = absurd (line_end_lem s p end _ h (inv ls c) e)
+pub skip_missing : (s : List ℕ) (at end i n p : ℕ) (f : Field) → SkipsTo s at end i p → p < end → f ≡ field_at p (drop p s)
+    → ((l st nx : ℕ) → f ≡ At l st nx → ⊥) → SkipsTo s at end n p
+skip_missing s at end i n p f inv h e k ls c = absurd (line_missing s p end _ f h (inv ls c) e k)

@@ -7,7 +7,12 @@ use Rattle.fields.specs.Spans.{Hole, RenderLine, border}
 use Rattle.rows.specs.Columns.{Slot, column_of}
 use Rattle.fields.specs.Places.{LinesAt}
 use Rattle.bodies.specs.Walk.{unholed}
+use Rattle.bodies.specs.declared.walk.Walked.{Walked}
 use Rattle.bodies.specs.declared.body.Body.{Body}
+
+-- all lines of a walk between two places
+abbrev pub body_of_lines : ℕ → ℕ → Walked → Body
+body_of_lines at end w = record { at = at; end = end; stop = end; count = w.count; holed = w.holed }
 
 -- numbers that hold whatever the bytes
 pub record BodyIn (at end : ℕ) (b : Body) : Type 0 where

@@ -1,6 +1,6 @@
 -- What walks over the lines between two places find.
 -- Assumes nothing: these are definitions.
-use Rattle.std.specs.Prelude.{◌≡◌, Bool, true, false, List, [], ◌∷◌, ◌++◌, ℕ, ◌+◌, ◌-◌, ◌≤◌, ◌<◌, ltb, length, drop, get_or}
+use Rattle.std.specs.Prelude.{◌≡◌, Bool, true, false, List, [], ◌∷◌, ◌++◌, ℕ, ◌+◌, ◌-◌, ◌≤◌, ◌<◌, ltb, length, drop, get_or, unwrap_or, IfSome}
 use Rattle.std.proofs.Math.Option.{some}
 use Rattle.fields.specs.Field.{whole, all, part}
 use Rattle.fields.specs.Spans.{RenderLine, text, border, read_line}
@@ -56,13 +56,13 @@ unholed (border a segs (h ∷ hs)) = false
 
 -- numbers of `walk_lines`, whatever the bytes
 pub record WalkedIn (s : List ℕ) (from to : ℕ) (w : Walked) : Type 0 where
-  pub last_in : LastIn s from to w.last
+  pub last_in : LastIn s from to (unwrap_or w.last to)
   pub few : w.count ≤ to - from
-  pub some_there : w.last < to → 1 ≤ w.count
+  pub there : IfSome w.last (λ r. (r < to) × (1 ≤ w.count))
 
 -- the last of some lines, how many they are, and that none has holes
 pub record WalkIs (s : List ℕ) (from to : ℕ) (w : Walked) (ls : List RenderLine) : Type 0 where
-  pub last_is : LastLine s from to w.last ls
+  pub last_is : LastLine s from to (unwrap_or w.last to) ls
   pub count_is : w.count ≡ length ls
   pub plain : w.holed ≡ false → all unholed ls ≡ true
 

@@ -1,13 +1,13 @@
 // Walks over the lines between two places.
-ghost use Rattle.std.specs.Prelude.{◌≡◌, ◌||◌, ◌≤◌, eqb};
+ghost use Rattle.std.specs.Prelude.{◌≤◌};
 ghost use Rattle.bodies.specs.Walk.{TopIn, PassesTop, TellsTop, WalkedIn, Walks, LastIn, FindsLast, SkipsTo};
 
 use fields::field::{Field, field_at};
 
-// Where the last of some lines stands, how many there are, and whether one of them is a border with holes.
-#[derive(Clone, Copy)]
+// Where the last of some lines stands, if there is one, how many there are, and whether one of them is a border with holes.
+#[derive(Clone, Copy, Debug, PartialEq, Eq)]
 pub struct Walked {
-    pub last: usize,
+    pub last: Option<usize>,
     pub count: usize,
     pub holed: bool,
 }
@@ -20,22 +20,13 @@ pub fn past_top(s: &[u8], from: usize, to: usize) -> usize
     if to <= from {
         return from;
     }
-    let f = field_at(s, from);
-    match f {
-        Field::At {
-            letter,
-            start: _,
-            next,
-        } => {
-            if letter != b'L' {
-                if next <= to {
-                    return next;
-                }
-            }
-            from
-        }
-        Field::Broken => from,
-        Field::End => from,
+    let Field::At { letter, next, .. } = field_at(s, from) else {
+        return from;
+    };
+    if letter != b'L' && next <= to {
+        next
+    } else {
+        from
     }
 }
 
@@ -43,67 +34,35 @@ pub fn past_top(s: &[u8], from: usize, to: usize) -> usize
 pub fn starts_border(s: &[u8], from: usize, to: usize) -> bool
     ensures { TellsTop s.now from to result }
 {
-    if to <= from {
-        return false;
-    }
-    if s.len() <= from {
-        return false;
-    }
-    if s[from] == b'L' {
-        return false;
-    }
-    true
+    from < to && s.get(from).is_some_and(|letter| *letter != b'L')
 }
 
-// Whether a border with holes was met, with one line more by its letter.
-fn meets_holes(holed: bool, letter: u8) -> bool
-    ensures { result ≡ (eqb letter 0x47 || holed) }
-{
-    if letter == b'G' {
-        return true;
-    }
-    holed
-}
-
-// The place of the last line between two places, or the second where there is none; how many lines there are; and whether one has holes.
+// The place of the last line between two places, if there is one; how many lines there are; and whether one has holes.
 pub fn walk_lines(s: &[u8], from: usize, to: usize) -> Walked
     ensures walked_in { WalkedIn s.now from to result }
     ensures walks { Walks s.now from to result }
 {
-    let mut last = to;
-    let mut count: usize = 0;
-    let mut holed = false;
+    let mut walked = Walked {
+        last: None,
+        count: 0,
+        holed: false,
+    };
     let mut at = from;
     while at < to {
-        let f = field_at(s, at);
-        match f {
-            Field::At {
-                letter,
-                start: _,
-                next,
-            } => {
-                last = at;
-                count += 1;
-                holed = meets_holes(holed, letter);
-                at = next;
-            }
-            Field::Broken => {
-                return Walked {
-                    last: to,
-                    count,
-                    holed,
-                };
-            }
-            Field::End => {
-                return Walked {
-                    last: to,
-                    count,
-                    holed,
-                };
-            }
-        }
+        let Field::At { letter, next, .. } = field_at(s, at) else {
+            return Walked {
+                last: None,
+                ..walked
+            };
+        };
+        walked = Walked {
+            last: Some(at),
+            count: walked.count + 1,
+            holed: letter == b'G' || walked.holed,
+        };
+        at = next;
     }
-    Walked { last, count, holed }
+    walked
 }
 
 // The place of the last line between two places, or the second where there is none.
@@ -111,8 +70,7 @@ pub fn last_line(s: &[u8], from: usize, to: usize) -> usize
     ensures last_in { LastIn s.now from to result }
     ensures finds_last { FindsLast s.now from to result }
 {
-    let w = walk_lines(s, from, to);
-    w.last
+    walk_lines(s, from, to).last.unwrap_or(to)
 }
 
 // The place behind the first n lines between two places, or behind all of them.
@@ -121,31 +79,17 @@ pub fn skip_lines(s: &[u8], at: usize, end: usize, n: usize) -> usize
     ensures skips_to { SkipsTo s.now at end n result }
 {
     let mut p = at;
-    let mut i: usize = 0;
-    while i < n {
+    for _ in 0..n {
         if end <= p {
             return p;
         }
-        let f = field_at(s, p);
-        match f {
-            Field::At {
-                letter: _,
-                start: _,
-                next,
-            } => {
-                if end < next {
-                    return p;
-                }
-                p = next;
-                i += 1;
-            }
-            Field::Broken => {
-                return p;
-            }
-            Field::End => {
-                return p;
-            }
+        let Field::At { next, .. } = field_at(s, p) else {
+            return p;
+        };
+        if end < next {
+            return p;
         }
+        p = next;
     }
     p
 }

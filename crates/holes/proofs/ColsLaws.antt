@@ -10,6 +10,7 @@ use lib.ListN.{length, take, drop}
 use borrow.Author.Tests.{eq-eqb, ne_eqb}
 use Rattle.std.specs.Prelude.{if◌then◌else◌}
 use Rattle.characters.proofs.Tests.{by_if}
+use Rattle.fields.specs.Field.{whole}
 use Rattle.fields.specs.Sheet.{Piece, fragment, read_str, read_piece}
 use Rattle.fields.specs.Widths.{text_width, piece_width}
 use Rattle.fields.proofs.Texts.{rest}
@@ -27,12 +28,6 @@ unfolding read_piece
 text_cols l t r e k q x =
     k ∙ ap text_width (rest t 1) ∙ some_of (λ (p : Piece). text_width (drop 1 t) ≡ piece_width p) (read_str t) q (rw (eq-eqb l 0x53 e) at x) (str_cols t)
 
--- an S field without content is not read
-pub empty_cols : (l : ℕ) (t : List ℕ) → l ≡ 0x53 → length t < 1 → CountsPiece l t 0
-unfolding read_piece
-empty_cols l [] e h q x = let z : none ≡ some q = rw (eq-eqb l 0x53 e) at x in absurd (let y : ◌≡◌ {A = ℕ} 0 1 = cc in omega arith)
-empty_cols l (a ∷ t) e h q x = absurd (omega arith)
-
 -- another field is a name
 name_read : (l : ℕ) (t : List ℕ) → OnSome (λ (q : Piece). 0 ≡ piece_width q) (if eqb l 0x46 then some (fragment t) else none)
 name_read l t = by_if (OnSome (λ (q : Piece). 0 ≡ piece_width q)) (eqb l 0x46) (λ _. refl) (λ _. tt)
@@ -40,3 +35,12 @@ name_read l t = by_if (OnSome (λ (q : Piece). 0 ≡ piece_width q)) (eqb l 0x46
 pub name_cols : (l : ℕ) (t : List ℕ) → (l ≡ 0x53 → ⊥) → CountsPiece l t 0
 unfolding read_piece
 name_cols l t n q x = some_of (λ (p : Piece). 0 ≡ piece_width p) (if eqb l 0x46 then some (fragment t) else none) q (rw (ne_eqb l 0x53 n) at x) (name_read l t)
+
+-- a field without content is not read, or a name
+empty_read : (l : ℕ) → OnSome (λ (q : Piece). 0 ≡ piece_width q) (read_piece (whole l []))
+unfolding read_piece
+empty_read l = by_if (OnSome (λ (q : Piece). 0 ≡ piece_width q)) (eqb l 0x53) (λ _. tt) (λ _. name_read l [])
+
+pub empty_cols : (l : ℕ) (t : List ℕ) → length t < 1 → CountsPiece l t 0
+empty_cols l [] h q x = some_of (λ (p : Piece). 0 ≡ piece_width p) (read_piece (whole l [])) q x (empty_read l)
+empty_cols l (a ∷ t) h q x = absurd (omega arith)

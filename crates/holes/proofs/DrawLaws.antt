@@ -4,7 +4,7 @@ use mathlib.Core.Path.{◌≡◌, refl, sym, ap, ap₂, ◌∙◌}
 use mathlib.Core.Bool.{Bool, true, false, not, ◌&&◌}
 use mathlib.Core.List.{List, [], ◌∷◌, ◌++◌, map}
 use mathlib.Core.Option.{some}
-use Prim.Native.Nat.{ℕ, ◌+◌, ◌-◌, ◌*◌, ◌^◌, ◌≤◌, ◌<◌}
+use Prim.Native.Nat.{ℕ, ◌+◌, ◌-◌, ◌*◌, ◌≤◌, min, max}
 use native.Mathlib.Omega.{arith}
 use lib.Dec.{leb}
 use lib.ListN.{length, drop, get_or, length-drop}
@@ -18,11 +18,9 @@ use Rattle.fields.proofs.Parts.{part_length}
 use Rattle.borders.specs.BorderHoriz.{stretch_to, to_string, as_str, sliceable, up_to_hole, at_hole, into_tagged_from}
 use Rattle.fields.specs.TaggedLine.{push_str, push}
 use Rattle.rows.proofs.Lines.{push_twice}
-use Rattle.fields.specs.Spans.{Hole, ends_within, readable_hole}
+use Rattle.fields.specs.Spans.{Hole, RawHole, punched, torn, raw_holes, read_holes, ends_within, readable_hole}
 use Rattle.rows.specs.Columns.{overlaps, holed_text}
-use Rattle.places.specs.Hole.{RawAt}
-use Rattle.places.specs.declared.hole.HoleAt.TheVariants.{Broken, End}
-use Rattle.places.proofs.HoleLaws.{FoundHole, hole_found, hole_torn, hole_none, hole_field}
+use Rattle.places.proofs.HolesLaws.{read_first_hole, read_torn, read_no_holes, raw_size, raw_size-cons, raw_size_in}
 use Rattle.tagged_line.specs.Held.{Within, LineGrown, Held}
 use Rattle.tagged_line.specs.declared.line.Line.{Line}
 use Rattle.tagged_line.proofs.Laying.{grown_none}
@@ -32,29 +30,39 @@ use Rattle.holes.proofs.Segments.{stretch_length, shown_width, at_hole_lem, up_t
 
 -- ---- the first of holes that fit
 
-pub record FitsFirst (n : ℕ) (s : List ℕ) (p l st nx : ℕ) (hs : List Hole) : Type 0 where
+-- the holes that are left, each within n segments, whose texts and names passed refusal 3
+pub record FitsLeft (n : ℕ) (left : List RawHole) (hs : List Hole) : Type 0 where
+  pub reads : read_holes left ≡ some hs
+  pub within : all (ends_within n) hs ≡ true
+  pub readable : all readable_hole hs ≡ true
+
+pub fits_left : (n : ℕ) (s : List ℕ) (at : ℕ) (hs : List Hole) (left : List RawHole) → left ≡ raw_holes (drop at s) → Fits n s at hs → FitsLeft n left hs
+fits_left n s at hs left e f = record { reads = rw e f.reads.reads; within = f.within; readable = f.readable }
+
+pub record FitsFirst (n p l : ℕ) (t : List ℕ) (more : List RawHole) (hs : List Hole) : Type 0 where
   pub one : Hole
-  pub more : List Hole
-  pub are : hs ≡ one ∷ more
+  pub rest : List Hole
+  pub are : hs ≡ one ∷ rest
   pub place_is : one.place ≡ p
-  pub reads : read_piece (whole l (part st nx s)) ≡ some one.piece
+  pub reads : read_piece (whole l t) ≡ some one.piece
   pub readable : readable_piece one.piece ≡ true
   pub ends : one.place + piece_width one.piece ≤ n
-  pub goes : Fits n s nx more
+  pub goes : FitsLeft n more rest
 
 pub ends_in : (n : ℕ) (h : Hole) → ends_within n h ≡ true → readable_piece h.piece ≡ true → h.place + piece_width h.piece ≤ n
 ends_in n h e r = leb-true (h.place + piece_width h.piece) n (rw r at e)
 
-pub fits_first : (n : ℕ) (s : List ℕ) (at p l st nx : ℕ) (hs : List Hole) → FoundHole s at p l st nx → Fits n s at hs → FitsFirst n s p l st nx hs
+pub fits_first : (n p l : ℕ) (t : List ℕ) (left more : List RawHole) (hs : List Hole) → left ≡ punched p (whole l t) ∷ more → FitsLeft n left hs
+    → FitsFirst n p l t more hs
 unfolding all
-fits_first n s at p l st nx hs r g =
-    let f = hole_found s at p l st nx r.raw hs g.reads in
+fits_first n p l t left more hs x g =
+    let f = read_first_hole p l t more hs (rw x at g.reads) in
     let w : (ends_within n f.one && all (ends_within n) f.more) ≡ true = rw f.are at g.within in
     let q : (readable_hole f.one && all readable_hole f.more) ≡ true = rw f.are at g.readable in
     let ok : readable_hole f.one ≡ true = and_left (readable_hole f.one) (all readable_hole f.more) q in
     record {
       one = f.one;
-      more = f.more;
+      rest = f.more;
       are = f.are;
       place_is = f.place_is;
       reads = f.reads;
@@ -86,39 +94,24 @@ within_on p q n k m w g l =
     }
 
 -- where a hole begins: at least pos, and no further than the border's end unless pos is
-begin_low : (pos m b : ℕ) → b ≡ pos + (m - pos) → pos ≤ b
+begin_low : (pos m b : ℕ) → b ≡ max pos m → pos ≤ b
 begin_low pos m b e = omega arith
 
-min_most : (place end m : ℕ) → m ≡ place - (place - end) → m ≤ end
+min_most : (place end m : ℕ) → m ≡ min place end → m ≤ end
 min_most place end m e = omega arith
 
-pub begin_most : (pos place end m b x : ℕ) → m ≡ place - (place - end) → b ≡ pos + (m - pos) → pos ≤ end + x → b ≤ end + x
+pub begin_most : (pos place end m b x : ℕ) → m ≡ min place end → b ≡ max pos m → pos ≤ end + x → b ≤ end + x
 begin_most pos place end m b x em eb h = let k = min_most place end m em in omega arith
 
-reaches : (pos m end b : ℕ) → b ≡ pos + (m - pos) → m ≤ end → b - pos ≤ end - pos
+reaches : (pos m end b : ℕ) → b ≡ max pos m → m ≤ end → b - pos ≤ end - pos
 reaches pos m end b e h = omega arith
 
 -- what the bytes passed add up to
 sum_segments : (pos b d : ℕ) → pos ≤ b → 8 * pos + 3 * d + (4 + 8 * (b - pos)) ≤ 8 * b + 3 * d + 4
 sum_segments pos b d h = omega arith
 
-room_segments : (pos b d n to end : ℕ) → pos ≤ b → b ≤ end + 2 * d → end ≤ n + to → d ≤ n → 8 * pos + 3 * d + (8 + 8 * (b - pos)) ≤ drawn_most n to
-room_segments pos b d n to end h i j k = omega arith
-
 room_piece : (b d x n to end : ℕ) → b ≤ end + 2 * d → end ≤ n + to → d + x + 5 ≤ n → 8 * b + 3 * d + 4 + (13 + 3 * x) ≤ drawn_most n to
 room_piece b d x n to end h i j = omega arith
-
-pub passed : (at holes n : ℕ) → at ≤ n → at - holes ≤ n
-passed at holes n h = omega arith
-
-pub begin_small : (b end d n to : ℕ) → b ≤ end + 2 * d → end ≤ n + to → d ≤ n → n < 65536 → to < 65536 → b < 2 ^ 20
-begin_small b end d n to h i j k l = omega arith
-
-pub end_small : (end n to : ℕ) → end ≤ n + to → n < 65536 → to < 65536 → end < 2 ^ 20
-end_small end n to i k l = omega arith
-
-pub passed_hole : (at holes st nx : ℕ) → st ≡ at + 5 → st ≤ nx → holes ≤ at → at - holes + (nx - st) + 5 ≡ nx - holes
-passed_hole at holes st nx h i j = omega arith
 
 pub few_next : (b c d e x end : ℕ) → b ≤ end + 2 * d → c ≤ 2 * x → d + x + 5 ≡ e → b + c ≤ end + 2 * e
 few_next b c d e x end h i j = omega arith
@@ -126,157 +119,137 @@ few_next b c d e x end h i j = omega arith
 grown_next : (b c d e x : ℕ) → d + x + 5 ≡ e → 8 * b + 3 * d + 4 + (9 + 3 * x) ≤ 8 * (b + c) + 3 * e
 grown_next b c d e x j = omega arith
 
+-- of so many bytes those that are not of the holes left
+abbrev pub passed : ℕ → List RawHole → ℕ
+passed n left = n - raw_size left
+
+-- a hole's bytes
+pub record PassedHole (n x : ℕ) (left more : List RawHole) : Type 0 where
+  pub on : passed n left + x + 5 ≡ passed n more
+  pub size : raw_size more ≤ n
+  pub fits : x + 5 ≤ n
+  pub all_fit : passed n left + x + 5 ≤ n
+
+pub passed_hole : (n p l : ℕ) (t : List ℕ) (left more : List RawHole) → raw_size left ≤ n → left ≡ punched p (whole l t) ∷ more → PassedHole n (length t) left more
+passed_hole n p l t left more h e =
+    let k : raw_size left ≡ 5 + length t + raw_size more = rw e (raw_size-cons p l t more) in
+    record { on = omega arith; size = omega arith; fits = omega arith; all_fit = omega arith }
+
+pub left_in : (s : List ℕ) (at : ℕ) (left : List RawHole) → left ≡ raw_holes (drop at s) → raw_size left ≤ length s
+left_in s at left e = rw e (omega (arith, raw_size_in (drop at s), length-drop at s))
+
 -- ---- the walk
 
 module _ (out₀ : List ℕ) (p₀ : Line) (a : ℕ) (s : List ℕ) (segs holes to : ℕ) (texts : Bool) (end : ℕ) where
-  -- up to a place of the content, and to a column, the border is drawn
-  pub record Drawing (out : List ℕ) (p : Line) (pos at : ℕ) : Type 0 where
-    pub low : holes ≤ at
-    pub inside : at ≤ length s
+  -- up to the holes that are left, and to a column, the border is drawn
+  pub record Drawing (out : List ℕ) (p : Line) (pos : ℕ) (left : List RawHole) : Type 0 where
+    pub inside : raw_size left ≤ length s
     pub size : length out ≡ length out₀
-    pub few : pos ≤ end + 2 * (at - holes)
-    pub grown : LineGrown p₀ p (8 * pos + 3 * (at - holes))
-    pub left : (hs : List Hole) → Fits (length (part segs holes s)) s holes hs → (st : List ℕ) (l : List Piece) → Held st l out₀ p₀
-        → (m : List Piece) × (rs : List Hole) × Fits (length (part segs holes s)) s at rs × Held st m out p
+    pub few : pos ≤ end + 2 * passed (length s) left
+    pub grown : LineGrown p₀ p (8 * pos + 3 * passed (length s) left)
+    pub left_is : (hs : List Hole) → Fits (length (part segs holes s)) s holes hs → (st : List ℕ) (l : List Piece) → Held st l out₀ p₀
+        → (m : List Piece) × (rs : List Hole) × FitsLeft (length (part segs holes s)) left rs × Held st m out p
         × (into_tagged_from a (stretch_to (part segs holes s) to) m pos (map (shown_hole texts a) rs)
         ≡ into_tagged_from a (stretch_to (part segs holes s) to) l 0 (map (shown_hole texts a) hs))
 
   -- before the first hole
-  pub draw_start : (n : ℕ) → holes ≤ length s → Within p₀ n → Drawing out₀ p₀ 0 holes
-  draw_start n h w =
+  pub draw_start : (n : ℕ) (left : List RawHole) → left ≡ raw_holes (drop holes s) → Within p₀ n → Drawing out₀ p₀ 0 left
+  draw_start n left e w =
       record {
-        low = omega arith;
-        inside = h;
+        inside = left_in s holes left e;
         size = refl;
         few = omega arith;
-        grown = grown_none p₀ n (8 * 0 + 3 * (holes - holes)) w;
-        left = λ hs f st l g. (l, hs, f, g, refl);
+        grown = grown_none p₀ n (8 * 0 + 3 * passed (length s) left) w;
+        left_is = λ hs f st l g. (l, hs, fits_left (length (part segs holes s)) s holes hs left e f, g, refl);
       }
 
   -- where the border is stretched to
-  module _ (order : segs ≤ holes) (whole_in : holes ≤ length s) (ee : end ≡ holes - segs + (to - (holes - segs))) where
+  module _ (whole_in : holes ≤ length s) (ee : end ≡ max to (length (part segs holes s))) where
     end_length : length (stretch_to (part segs holes s) to) ≡ end
-    end_length =
-        let n = part_length segs holes s whole_in in
-        stretch_length (part segs holes s) to ∙ rw n (sym ee)
+    end_length = stretch_length (part segs holes s) to ∙ omega arith
 
     pub end_most : end ≤ length s + to
-    end_most = omega arith
+    end_most = omega (arith, part_length segs holes s whole_in)
 
     pub own_length : length (part segs holes s) ≤ end
-    own_length = rw (part_length segs holes s whole_in) (omega arith)
+    own_length = omega arith
 
-    module _ (out : List ℕ) (p : Line) (pos at : ℕ) (w : Drawing out p pos at) where
-      -- room for the segments before a hole
-      pub draw_room : (place m b : ℕ) → Within p₀ (drawn_most (length s) to) → m ≡ place - (place - end) → b ≡ pos + (m - pos)
-          → (b ≤ end + 2 * (at - holes)) × Within p (8 + 8 * (b - pos))
-      draw_room place m b ww em eb =
-          let most = begin_most pos place end m b (2 * (at - holes)) em eb w.few in (
-            most,
-            within_on p₀ p (8 * pos + 3 * (at - holes)) (8 + 8 * (b - pos)) (drawn_most (length s) to) ww w.grown
-                (room_segments pos b (at - holes) (length s) to end (begin_low pos m b eb) most end_most (passed at holes (length s) w.inside)),
-          )
+    module _ (out : List ℕ) (p : Line) (pos : ℕ) (left : List RawHole) (w : Drawing out p pos left) where
+      module _ (place m b l : ℕ) (t : List ℕ) (more : List RawHole) (em : m ≡ min place end) (eb : b ≡ max pos m) (x : left ≡ punched place (whole l t) ∷ more) where
+        -- a hole
+        pub draw_piece_room : (q : Line) → Within p₀ (drawn_most (length s) to) → LineGrown p q (4 + 8 * (b - pos)) → Within q (13 + 3 * length t)
+        draw_piece_room q ww g =
+            let d = passed (length s) left in
+            let most = begin_most pos place end m b (2 * d) em eb w.few in
+            within_on p₀ q (8 * b + 3 * d + 4) (13 + 3 * length t) (drawn_most (length s) to) ww
+            (grown_on p₀ p q (8 * pos + 3 * d) (4 + 8 * (b - pos)) (8 * b + 3 * d + 4) w.grown g (sum_segments pos b d (begin_low pos m b eb)))
+            (room_piece b d (length t) (length s) to end most end_most (passed_hole (length s) place l t left more w.inside x).all_fit)
 
-      -- a hole
-      pub draw_piece_room : (place m b l st nx : ℕ) (q : Line) → Within p₀ (drawn_most (length s) to) → m ≡ place - (place - end) → b ≡ pos + (m - pos)
-          → FoundHole s at place l st nx → LineGrown p q (4 + 8 * (b - pos)) → Within q (13 + 3 * (nx - st))
-      draw_piece_room place m b l st nx q ww em eb f g =
-          let most = begin_most pos place end m b (2 * (at - holes)) em eb w.few in
-          within_on p₀ q (8 * b + 3 * (at - holes) + 4) (13 + 3 * (nx - st)) (drawn_most (length s) to) ww
-          (grown_on p₀ p q (8 * pos + 3 * (at - holes)) (4 + 8 * (b - pos)) (8 * b + 3 * (at - holes) + 4) w.grown g
-          (sum_segments pos b (at - holes) (begin_low pos m b eb)))
-          (room_piece b (at - holes) (nx - st) (length s) to end most end_most
-          (rw (passed_hole at holes st nx f.begins f.order w.low) (passed nx holes (length s) f.inside)))
+        module _ (c : ℕ) (out1 out2 : List ℕ) (p1 p2 : Line) (g1 : LineGrown p p1 (4 + 8 * (b - pos))) (d1 : DrawsPart out p a (part segs holes s) pos b out1 p1)
+            (g2 : LineGrown p1 p2 (9 + 3 * length t)) (d2 : PushesPiece out1 p1 a l t texts out2 p2)
+            (fc : c ≤ 2 * length t) (ec : CountsPiece l t c) where
+          next_few : b + c ≤ end + 2 * passed (length s) more
+          next_few =
+              let d = passed (length s) left in
+              few_next b c d (passed (length s) more) (length t) end (begin_most pos place end m b (2 * d) em eb w.few) fc
+              (passed_hole (length s) place l t left more w.inside x).on
 
-      module _ (place m b l st nx c : ℕ) (out1 out2 : List ℕ) (p1 p2 : Line) (em : m ≡ place - (place - end)) (eb : b ≡ pos + (m - pos))
-          (f : FoundHole s at place l st nx) (g1 : LineGrown p p1 (4 + 8 * (b - pos))) (d1 : DrawsPart out p a (part segs holes s) pos b out1 p1)
-          (g2 : LineGrown p1 p2 (9 + 3 * (nx - st))) (d2 : PushesPiece out1 p1 a l s st nx texts out2 p2)
-          (fc : c ≤ 2 * length (part st nx s)) (ec : CountsPiece l (part st nx s) c) where
-        next_few : b + c ≤ end + 2 * (nx - holes)
-        next_few =
-            few_next b c (at - holes) (nx - holes) (nx - st) end (begin_most pos place end m b (2 * (at - holes)) em eb w.few) (rw f.size at fc)
-            (passed_hole at holes st nx f.begins f.order w.low)
+          next_grown : LineGrown p₀ p2 (8 * (b + c) + 3 * passed (length s) more)
+          next_grown =
+              let d = passed (length s) left in
+              grown_on p₀ p1 p2 (8 * b + 3 * d + 4) (9 + 3 * length t) (8 * (b + c) + 3 * passed (length s) more)
+              (grown_on p₀ p p1 (8 * pos + 3 * d) (4 + 8 * (b - pos)) (8 * b + 3 * d + 4) w.grown g1 (sum_segments pos b d (begin_low pos m b eb)))
+              g2 (grown_next b c d (passed (length s) more) (length t) (passed_hole (length s) place l t left more w.inside x).on)
 
-        next_grown : LineGrown p₀ p2 (8 * (b + c) + 3 * (nx - holes))
-        next_grown =
-            grown_on p₀ p1 p2 (8 * b + 3 * (at - holes) + 4) (9 + 3 * (nx - st)) (8 * (b + c) + 3 * (nx - holes))
-            (grown_on p₀ p p1 (8 * pos + 3 * (at - holes)) (4 + 8 * (b - pos)) (8 * b + 3 * (at - holes) + 4) w.grown g1
-            (sum_segments pos b (at - holes) (begin_low pos m b eb)))
-            g2 (grown_next b c (at - holes) (nx - holes) (nx - st) (passed_hole at holes st nx f.begins f.order w.low))
-
-        -- one hole on
-        pub draw_on : length out2 ≡ length out₀ → Drawing out2 p2 (b + c) nx
-        unfolding into_tagged_from
-        draw_on same =
-            record {
-              low = omega (arith, f.begins, f.order, w.low);
-              inside = f.inside;
-              size = same;
-              few = next_few;
-              grown = next_grown;
-              left = λ hs fits st₀ l₀ held.
-                  let (m₁, rs, fr, hm, eq) = w.left hs fits st₀ l₀ held in
-                  let x = fits_first (length (part segs holes s)) s at place l st nx rs f fr in
-                  let S = stretch_to (part segs holes s) to in
-                  let hp = x.one.place in
-                  let q = x.one.piece in
-                  let inner : hp ≤ end = omega (arith, x.ends, own_length) in
-                  let eh : b ≡ pos + (hp - (hp - end) - pos) = rw (x.place_is, ← em) eb in
-                  let far : b - pos ≤ length S - pos = rw end_length (reaches pos m end b eb (min_most place end m em)) in
-                  let held1 : Held st₀ (up_to_hole a S m₁ pos hp) out1 p1 = rw (up_to_hole_lem a S m₁ pos hp end b inner eh) at (d1 to far st₀ m₁ hm) in
-                  let held2 = d2 (hole_field s at place l st nx f) q x.reads x.readable st₀ (up_to_hole a S m₁ pos hp) held1 in
-                  let n : b + c ≡ at_hole pos hp + piece_width (shown_piece texts a q) =
-                  omega (arith, at_hole_lem pos hp end b inner eh, shown_width texts a q, ec q x.reads) in (
-                    push (up_to_hole a S m₁ pos hp) (shown_piece texts a q),
-                    x.more,
-                    x.goes,
-                    held2,
-                    ap (λ (i : ℕ). into_tagged_from a S (push (up_to_hole a S m₁ pos hp) (shown_piece texts a q)) i (map (shown_hole texts a) x.more)) n
-                        ∙ sym (ap (λ (k : List Hole). into_tagged_from a S m₁ pos (map (shown_hole texts a) k)) x.are)
-                        ∙ eq,
-                  );
-            }
+          -- one hole on
+          pub draw_on : length out2 ≡ length out₀ → Drawing out2 p2 (b + c) more
+          unfolding into_tagged_from
+          draw_on same =
+              record {
+                inside = (passed_hole (length s) place l t left more w.inside x).size;
+                size = same;
+                few = next_few;
+                grown = next_grown;
+                left_is = λ hs fits st₀ l₀ held.
+                    let (m₁, rs, fr, hm, eq) = w.left_is hs fits st₀ l₀ held in
+                    let f = fits_first (length (part segs holes s)) place l t left more rs x fr in
+                    let S = stretch_to (part segs holes s) to in
+                    let hp = f.one.place in
+                    let q = f.one.piece in
+                    let inner : hp ≤ end = omega (arith, f.ends, own_length) in
+                    let eh : b ≡ max pos (min hp end) = rw (f.place_is, ← em) eb in
+                    let far : b - pos ≤ length S - pos = rw end_length (reaches pos m end b eb (min_most place end m em)) in
+                    let held1 : Held st₀ (up_to_hole a S m₁ pos hp) out1 p1 = rw (up_to_hole_lem a S m₁ pos hp end b inner eh) at (d1 to far st₀ m₁ hm) in
+                    let held2 = d2 q f.reads f.readable st₀ (up_to_hole a S m₁ pos hp) held1 in
+                    let n : b + c ≡ at_hole pos hp + piece_width (shown_piece texts a q) =
+                    omega (arith, at_hole_lem pos hp end b inner eh, shown_width texts a q, ec q f.reads) in (
+                      push (up_to_hole a S m₁ pos hp) (shown_piece texts a q),
+                      f.rest,
+                      f.goes,
+                      held2,
+                      ap (λ (i : ℕ). into_tagged_from a S (push (up_to_hole a S m₁ pos hp) (shown_piece texts a q)) i (map (shown_hole texts a) f.rest)) n
+                          ∙ sym (ap (λ (k : List Hole). into_tagged_from a S m₁ pos (map (shown_hole texts a) k)) f.are)
+                          ∙ eq,
+                    );
+              }
 
       -- a rest that is no hole is not there
-      pub draw_broken : RawAt s at Broken → DrawsHoles out₀ p₀ a s segs holes to texts out p
-      draw_broken r hs fits st l held = let (m₁, rs, fr, hm, eq) = w.left hs fits st l held in absurd (hole_torn s at r rs fr.reads)
-
-      -- and nothing more is drawn
-      pub draw_little : LineGrown p₀ p (drawn_most (length s) to)
-      draw_little =
-          let e = end_most in
-          let i : at - holes ≤ length s = omega (arith, w.inside) in
-          grown_on p₀ p p (8 * pos + 3 * (at - holes)) 0 (drawn_most (length s) to) w.grown
-          (record { base = refl; piece = w.grown.piece; on = omega arith; at = omega arith; wider = omega arith; cols = omega arith })
-          (omega (arith, w.few, e, i))
-
-      -- room for the last segments
-      pub draw_last_room : Within p₀ (drawn_most (length s) to) → Within p (8 + 8 * (end - pos))
-      draw_last_room ww =
-          let e = end_most in
-          let i : at - holes ≤ length s = omega (arith, w.inside) in
-          let sum : 8 * pos + 8 * (end - pos) ≤ 8 * (end + 2 * (at - holes)) = omega (arith, w.few) in
-          within_on p₀ p (8 * pos + 3 * (at - holes)) (8 + 8 * (end - pos)) (drawn_most (length s) to) ww w.grown (omega (arith, sum, e, i))
-
-      pub draw_last_grown : (q : Line) → LineGrown p q (4 + 8 * (end - pos)) → LineGrown p₀ q (drawn_most (length s) to)
-      draw_last_grown q g =
-          let e = end_most in
-          let i : at - holes ≤ length s = omega (arith, w.inside) in
-          let sum : 8 * pos + 8 * (end - pos) ≤ 8 * (end + 2 * (at - holes)) = omega (arith, w.few) in
-          grown_on p₀ p q (8 * pos + 3 * (at - holes)) (4 + 8 * (end - pos)) (drawn_most (length s) to) w.grown g (omega (arith, sum, e, i))
+      pub draw_torn : (more : List RawHole) → left ≡ torn ∷ more → DrawsHoles out₀ p₀ a s segs holes to texts out p
+      draw_torn more x hs fits st l held =
+          let (m, rs, fr, hm, eq) = w.left_is hs fits st l held in absurd (read_torn more rs (rw x at fr.reads))
 
       -- past the last hole
-      pub draw_end : (out1 : List ℕ) (p1 : Line) → RawAt s at End → DrawsPart out p a (part segs holes s) pos end out1 p1
+      pub draw_end : (out1 : List ℕ) (p1 : Line) → left ≡ [] → DrawsPart out p a (part segs holes s) pos end out1 p1
           → DrawsHoles out₀ p₀ a s segs holes to texts out1 p1
       unfolding into_tagged_from
-      draw_end out1 p1 r d hs fits st l held =
-          let (m₁, rs, fr, hm, eq) = w.left hs fits st l held in
+      draw_end out1 p1 x d hs fits st l held =
+          let (m, rs, fr, hm, eq) = w.left_is hs fits st l held in
           let S = stretch_to (part segs holes s) to in
           let far : end - pos ≤ length S - pos = rw end_length (omega arith) in
           let rest : part pos end S ≡ drop pos S = take_all (end - pos) (drop pos S) (rw (length-drop, end_length) (omega arith)) in
-          let done : push_str m₁ a (to_string (drop pos S)) ≡ into_tagged_from a S l 0 (map (shown_hole texts a) hs) =
-          sym (ap (λ (k : List Hole). into_tagged_from a S m₁ pos (map (shown_hole texts a) k)) (hole_none s at r rs fr.reads)) ∙ eq in
-          rw (← done, ← rest) (d to far st m₁ hm)
+          let done : push_str m a (to_string (drop pos S)) ≡ into_tagged_from a S l 0 (map (shown_hole texts a) hs) =
+          sym (ap (λ (k : List Hole). into_tagged_from a S m pos (map (shown_hole texts a) k)) (read_no_holes rs (rw x at fr.reads))) ∙ eq in
+          rw (← done, ← rest) (d to far st m hm)
 
 -- ---- `to_string` and `into_tagged_line`
 
@@ -301,7 +274,7 @@ holed_walk a segs l pos (h ∷ hs) e =
     let Z = holed_text segs (h.place + k) hs in
     let ok = not_false (sliceable pos h.place segs) (or_left (not (sliceable pos h.place segs)) (overlaps segs (h.place + k) hs) e) in
     let lo : pos ≤ h.place = leb-true pos h.place (and_left (leb pos h.place) (leb h.place (length segs)) ok) in
-    let eh : h.place ≡ pos + (h.place - (h.place - h.place) - pos) = omega arith in
+    let eh : h.place ≡ max pos (min h.place h.place) = omega arith in
     let le : h.place ≤ h.place = omega arith in
     let u : push_str l a X ≡ up_to_hole a segs l pos h.place = up_to_hole_lem a segs l pos h.place h.place h.place le eh in
     let n : at_hole pos h.place + piece_width (str a Y) ≡ h.place + k = omega (arith, at_hole_lem pos h.place h.place h.place le eh, shown_width true a h.piece) in

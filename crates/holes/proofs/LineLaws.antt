@@ -5,7 +5,7 @@ use mathlib.Core.Bool.{◌&&◌}
 use mathlib.Core.Logic.{⊎_elim}
 use mathlib.Core.Option.{Option, none, some, map}
 use mathlib.Core.List.{List, [], ◌∷◌}
-use Prim.Native.Nat.{ℕ, ◌+◌, ◌-◌, ◌*◌, ◌≤◌, ◌<◌}
+use Prim.Native.Nat.{ℕ, ◌+◌, ◌-◌, ◌*◌, ◌≤◌, ◌<◌, max}
 use native.Mathlib.Omega.{arith}
 use lib.Dec.{leb, ltb, eqb}
 use lib.ListN.{length, take, drop, replicate, length-append, length-drop}
@@ -27,7 +27,7 @@ use Rattle.fields.specs.Spans.{Hole, hole, RawHole, punched, torn, raw_holes_f, 
 use Rattle.rows.specs.SubRenderer.{filled}
 use Rattle.places.specs.Border.{FindsParts}
 use Rattle.places.specs.declared.border.Parts.{Parts}
-use Rattle.places.proofs.HoleLaws.{hole_end, hole_none}
+use Rattle.places.proofs.HolesLaws.{holes_none, read_no_holes}
 use Rattle.tagged_line.specs.Pieces.{PiecesOf}
 use Rattle.holes.specs.Cols.{CountsPieces, walk_end, EndsAt, CountsText, CountsBorder, CountsLine}
 use Rattle.holes.specs.declared.cols.LineCols.{LineCols}
@@ -158,7 +158,7 @@ no_pieces [] ps h e = read_none read_piece ps (sym (ap (read_all read_piece) raw
 no_pieces (b ∷ s) ps h e = absurd (omega arith)
 
 -- THE COLUMNS OF A PADDED TEXT, AND ITS PIECES.
-pub text_counts : (s : List ℕ) (to own : ℕ) (r : LineCols) → CountsPieces s own → r.cols ≡ own + (to - own) → r.pieces ≡ ltb 0 (length s + to)
+pub text_counts : (s : List ℕ) (to own : ℕ) (r : LineCols) → CountsPieces s own → r.cols ≡ max own to → r.pieces ≡ ltb 0 (length s + to)
     → CountsText s to r
 text_counts s to own r c ec ep a ps e ok =
     let f = every_from WellFormedPiece readable_piece formed ps ok in
@@ -191,7 +191,7 @@ unfolding walk_end
 end_plain end = omega arith
 
 -- THE COLUMNS OF A STRETCHED BORDER, AND ITS PIECES.
-pub border_counts : (s : List ℕ) (segs holes to end : ℕ) (r : LineCols) → holes ≤ length s → end ≡ (holes - segs) + (to - (holes - segs))
+pub border_counts : (s : List ℕ) (segs holes to end : ℕ) (r : LineCols) → holes ≤ length s → end ≡ max to (holes - segs)
     → EndsAt s holes end r.cols → r.pieces ≡ ltb 0 (length s - holes + end) → CountsBorder s segs holes to r
 unfolding width
 border_counts s segs holes to end r k ee c ep a ss hs b ok =
@@ -207,7 +207,7 @@ border_counts s segs holes to end r k ee c ep a ss hs b ok =
   where
     -- no bytes behind the segments, no holes
     none_left : length s ≤ holes → hs ≡ []
-    none_left h = hole_none s holes (hole_end s holes h) hs b.punched
+    none_left h = read_no_holes hs (rw (holes_none (drop holes s) (simp length-drop (omega arith))) at b.punched.reads)
 
     -- without holes the columns are the segments
     plain : length s ≤ holes → walk_end end 0 hs ≡ end

@@ -2,32 +2,32 @@
 -- Assumes nothing.
 use mathlib.Core.Path.{◌≡◌, refl, sym, ap, ◌∙◌}
 use mathlib.Core.Bool.{Bool, true, false, not, ◌&&◌, ◌||◌}
-use mathlib.Core.List.{List, ◌∷◌}
+use mathlib.Core.List.{List, [], ◌∷◌}
+use mathlib.Core.Logic.{◌⊎◌, ⊎_elim}
+use mathlib.Core.Option.{some}
 use Prim.Native.Nat.{ℕ, ◌+◌, ◌≤◌, ◌<◌}
 use native.Mathlib.Omega.{arith}
 use lib.Dec.{leb}
-use lib.ListN.{length}
+use lib.ListN.{length, drop}
 use borrow.Author.Tests.{le-leb, lt-leb}
-use Rattle.fields.specs.Field.{part}
+use Rattle.fields.specs.Field.{whole}
 use Rattle.fields.specs.Widths.{piece_width}
-use Rattle.fields.specs.Spans.{Hole}
+use Rattle.fields.specs.Spans.{Hole, RawHole, punched, torn, raw_holes, read_holes}
 use Rattle.fields.specs.Places.{HolesFrom}
 use Rattle.rows.specs.Columns.{overlaps}
-use Rattle.places.specs.Hole.{RawAt}
-use Rattle.places.specs.declared.hole.HoleAt.TheVariants.{Broken, End}
-use Rattle.places.proofs.HoleLaws.{FoundHole, hole_found, hole_torn, hole_none}
+use Rattle.places.proofs.HolesLaws.{read_first_hole, read_torn, read_no_holes}
 use Rattle.holes.specs.Cols.{CountsPiece}
 use Rattle.holes.specs.Overlap.{FindsOverlap}
 
--- the holes from a place on are left, and the walk stands at pos
-abbrev pub Looks : List ℕ → ℕ → ℕ → ℕ → ℕ → Type 0
-Looks s holes count pos at =
+-- what is left of the holes, and the walk stands at pos
+abbrev pub Looks : List ℕ → ℕ → ℕ → ℕ → List RawHole → Type 0
+Looks s holes count pos left =
     (segs : List ℕ) (hs : List Hole) → HolesFrom s holes hs → length segs ≡ count
-    → (rs : List Hole) × HolesFrom s at rs × (overlaps segs pos rs ≡ overlaps segs 0 hs)
+    → (rs : List Hole) × (read_holes left ≡ some rs) × (overlaps segs pos rs ≡ overlaps segs 0 hs)
 
 -- before the first
-pub look_start : (s : List ℕ) (holes count : ℕ) → Looks s holes count 0 holes
-look_start s holes count segs hs g e = (hs, g, refl)
+pub look_start : (s : List ℕ) (holes count : ℕ) (left : List RawHole) → left ≡ raw_holes (drop holes s) → Looks s holes count 0 left
+look_start s holes count left x segs hs g e = (hs, rw x g.reads, refl)
 
 one_more : (segs : List ℕ) (pos : ℕ) (h : Hole) (rs : List Hole) → pos ≤ h.place → h.place ≤ length segs
     → overlaps segs pos (h ∷ rs) ≡ overlaps segs (h.place + piece_width h.piece) rs
@@ -46,35 +46,30 @@ past_end segs pos h rs k = rw (lt-leb h.place (length segs) k) (go (leb pos h.pl
     go true = refl
     go false = refl
 
-module _ (s : List ℕ) (holes count pos at : ℕ) (w : Looks s holes count pos at) where
+module _ (s : List ℕ) (holes count pos : ℕ) (left : List RawHole) (w : Looks s holes count pos left) where
   -- a hole that stands apart
-  pub look_on : (p l st nx c : ℕ) → FoundHole s at p l st nx → CountsPiece l (part st nx s) c → pos ≤ p → p ≤ count → Looks s holes count (p + c) nx
-  look_on p l st nx c r k lo hi segs hs g e =
+  pub look_on : (p l : ℕ) (t : List ℕ) (more : List RawHole) (c : ℕ) → left ≡ punched p (whole l t) ∷ more → CountsPiece l t c → pos ≤ p → p ≤ count → Looks s holes count (p + c) more
+  look_on p l t more c x k lo hi segs hs g e =
       let (rs, gr, eq) = w segs hs g e in
-      let f = hole_found s at p l st nx r.raw rs gr in
+      let f = read_first_hole p l t more rs (rw x at gr) in
       let h = f.one in
       let m : p + c ≡ h.place + piece_width h.piece = omega (arith, k h.piece f.reads, f.place_is) in
-      (f.more, f.goes, ap (λ (x : ℕ). overlaps segs x f.more) m ∙ sym (one_more segs pos h f.more (omega (arith, f.place_is)) (omega (arith, f.place_is))) ∙ sym (ap (overlaps segs pos) f.are) ∙ eq)
+      (f.more, f.goes, ap (λ (i : ℕ). overlaps segs i f.more) m ∙ sym (one_more segs pos h f.more (omega (arith, f.place_is)) (omega (arith, f.place_is))) ∙ sym (ap (overlaps segs pos) f.are) ∙ eq)
 
-  -- one that begins before the last ends
-  pub look_before : (p l st nx : ℕ) → FoundHole s at p l st nx → p < pos → FindsOverlap s holes count true
-  look_before p l st nx r lo segs hs g e =
+  -- one that begins before the last ends, or past the last segment
+  pub look_over : (p l : ℕ) (t : List ℕ) (more : List RawHole) → left ≡ punched p (whole l t) ∷ more → (p < pos) ⊎ ((pos ≤ p) × (count < p)) → FindsOverlap s holes count true
+  look_over p l t more x over segs hs g e =
       let (rs, gr, eq) = w segs hs g e in
-      let f = hole_found s at p l st nx r.raw rs gr in
-      sym (no_more segs pos f.one f.more (omega (arith, f.place_is))) ∙ sym (ap (overlaps segs pos) f.are) ∙ eq
-
-  -- one past the last segment
-  pub look_past : (p l st nx : ℕ) → FoundHole s at p l st nx → count < p → FindsOverlap s holes count true
-  look_past p l st nx r hi segs hs g e =
-      let (rs, gr, eq) = w segs hs g e in
-      let f = hole_found s at p l st nx r.raw rs gr in
-      sym (past_end segs pos f.one f.more (omega (arith, f.place_is))) ∙ sym (ap (overlaps segs pos) f.are) ∙ eq
+      let f = read_first_hole p l t more rs (rw x at gr) in
+      let first : overlaps segs pos (f.one ∷ f.more) ≡ true =
+      ⊎_elim (λ lo. no_more segs pos f.one f.more (omega (arith, f.place_is))) (λ hi. past_end segs pos f.one f.more (omega (arith, f.place_is, hi.1))) over in
+      sym first ∙ sym (ap (overlaps segs pos) f.are) ∙ eq
 
   -- a rest that is no hole is not there
-  pub look_broken : RawAt s at Broken → FindsOverlap s holes count false
-  look_broken r segs hs g e = let (rs, gr, eq) = w segs hs g e in absurd (hole_torn s at r rs gr)
+  pub look_torn : (more : List RawHole) → left ≡ torn ∷ more → FindsOverlap s holes count false
+  look_torn more x segs hs g e = let (rs, gr, eq) = w segs hs g e in absurd (read_torn more rs (rw x at gr))
 
   -- past the last
-  pub look_end : RawAt s at End → FindsOverlap s holes count false
+  pub look_end : left ≡ [] → FindsOverlap s holes count false
   unfolding overlaps
-  look_end r segs hs g e = let (rs, gr, eq) = w segs hs g e in sym (ap (overlaps segs pos) (hole_none s at r rs gr)) ∙ eq
+  look_end x segs hs g e = let (rs, gr, eq) = w segs hs g e in sym (ap (overlaps segs pos) (read_no_holes rs (rw x at gr))) ∙ eq

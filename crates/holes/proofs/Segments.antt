@@ -5,7 +5,7 @@ use mathlib.Core.Bool.{Bool, true, false}
 use mathlib.Core.Logic.{⊎_elim}
 use mathlib.Core.Option.{none, some}
 use mathlib.Core.List.{List, [], ◌∷◌, ◌++◌}
-use Prim.Native.Nat.{ℕ, ◌+◌, ◌-◌, ◌≤◌, ◌<◌}
+use Prim.Native.Nat.{ℕ, ◌+◌, ◌-◌, ◌≤◌, ◌<◌, min, max}
 use native.Mathlib.Omega.{arith}
 use lib.Dec.{eqb}
 use lib.ListN.{length, take, drop, get_or, replicate, length-append, length-replicate, get_or-replicate, get_or-append, get_or-eq_default}
@@ -13,7 +13,7 @@ use lib.Seq.{ext_get_or, get_or-append-add, get_or-take, get_or-drop}
 use borrow.Author.Tests.{eq-eqb, ne_eqb, lt-ltb, le-ltb}
 use Rattle.std.specs.Prelude.{if◌then◌else◌}
 use Rattle.characters.proofs.Tests.{by_if, lt_or_le}
-use Rattle.fields.specs.Field.{raws, read_all, part, all}
+use Rattle.fields.specs.Field.{whole, raws, read_all, part, all}
 use Rattle.fields.specs.Sheet.{Piece, str, fragment, read_str, read_piece, readable_piece}
 use Rattle.fields.specs.Text.{readable_text}
 use Rattle.fields.specs.Widths.{text_width, piece_width}
@@ -60,24 +60,24 @@ stretch_at b w i = ⊎_elim own past (lt_or_le i (length b))
         ∙ sym (get_or-eq_default b Horiz h)
 
 -- the places of a part within k segments
-pub few : (k from to a b : ℕ) → a ≡ from - (from - k) → b ≡ to - (to - k) → from < to → b - a ≤ to - from
+pub few : (k from to a b : ℕ) → a ≡ min from k → b ≡ min to k → from < to → b - a ≤ to - from
 few k from to a b ea eb h = omega arith
 
-pub low : (k to b : ℕ) → b ≡ to - (to - k) → b ≤ k
+pub low : (k to b : ℕ) → b ≡ min to k → b ≤ k
 low k to b eb = omega arith
 
-same : (k from a b i : ℕ) → a ≡ from - (from - k) → b ≤ k → i < b - a → a + i ≡ from + i
+same : (k from a b i : ℕ) → a ≡ min from k → b ≤ k → i < b - a → a + i ≡ from + i
 same k from a b i ea l h = omega arith
 
-over : (k from to a b i : ℕ) → a ≡ from - (from - k) → b ≡ to - (to - k) → i < to - from → b - a ≤ i → k ≤ from + i
+over : (k from to a b i : ℕ) → a ≡ min from k → b ≡ min to k → i < to - from → b - a ≤ i → k ≤ from + i
 over k from to a b i ea eb m n = ⊎_elim (λ h. let e : b ≡ to = omega arith in let d : a ≡ from = omega arith in absurd (omega arith)) (λ h. let e : b ≡ k = omega arith in omega arith) (lt_or_le to k)
 
 filled_up : (m n : ℕ) → m ≤ n → m + (n - m) ≡ n
 filled_up m n h = omega arith
 
 -- A PART OF IT is a part of its own segments, stretched.
-module _ (segs : List ℕ) (w from to a b : ℕ) (h : from < to) (k : to ≤ length (stretch_to segs w)) (ea : a ≡ from - (from - length segs))
-    (eb : b ≡ to - (to - length segs)) where
+module _ (segs : List ℕ) (w from to a b : ℕ) (h : from < to) (k : to ≤ length (stretch_to segs w)) (ea : a ≡ min from (length segs))
+    (eb : b ≡ min to (length segs)) where
   part_size : length (part a b segs) ≡ b - a
   part_size = part_length a b segs (low (length segs) to b eb)
 
@@ -121,8 +121,13 @@ push_part_none l a from to s h = rw (part_none from to s h, string_nil)
 pub drawn_none : (out : List ℕ) (p : Line) (a : ℕ) (segs : List ℕ) (from to : ℕ) → to ≤ from → DrawsPart out p a segs from to out p
 drawn_none out p a segs from to h w k st l g = rw (push_part_none l a from to (stretch_to segs w) h) g
 
+<<<<<<< HEAD
 pub drawn_part : (out out' : List ℕ) (p r : Line) (c : ℕ) (segs : List ℕ) (from to a b : ℕ) → from < to → a ≡ from - (from - length segs)
     → b ≡ to - (to - length segs) → Draws out p c (part a b segs) (to - from) Segments out' r → DrawsPart out p c segs from to out' r
+=======
+pub drawn_part : (out out' : List ℕ) (p r : Line) (c : ℕ) (segs : List ℕ) (from to a b : ℕ) → from < to → a ≡ min from (length segs)
+    → b ≡ min to (length segs) → Draws out p c (part a b segs) (to - from) false out' r → DrawsPart out p c segs from to out' r
+>>>>>>> a2e6828deca3aecfb8539f36b3a4714b7f7eae0d
 drawn_part out out' p r c segs from to a b h ea eb d w k st l g =
     let e : drawn Segments (stretch_to (part a b segs) (to - from)) ≡ to_string (part from to (stretch_to segs w)) =
     drawn_string (stretch_to (part a b segs) (to - from)) ∙ ap to_string (part_stretched segs w from to a b h (omega arith) ea eb) in
@@ -146,11 +151,6 @@ text_pushed out out' p r a l c t el ec f q e ok st m h =
     let (et, er) = some_of (TextOf t) (read_str t) q (rw (eq-eqb l 0x53 el) at e) (text_of t) in
     rw et (rw (rest t 1) at f st m h (readable_formed false (drop 1 t) (sym er ∙ ok)) (sym (ec ∙ ap text_width (rest t 1))))
 
-pub text_empty : (out : List ℕ) (p : Line) (a l : ℕ) (t : List ℕ) → l ≡ 0x53 → length t < 1 → PushesText out p a l t out p
-unfolding read_piece
-text_empty out p a l [] el h q e ok st m g = let z : none ≡ some q = rw (eq-eqb l 0x53 el) at e in absurd (let y : ◌≡◌ {A = ℕ} 0 1 = cc in omega arith)
-text_empty out p a l (b ∷ t) el h q e ok st m g = absurd (omega arith)
-
 no_text : (l : ℕ) (t : List ℕ) → OnSome (λ (q : Piece). as_str q ≡ []) (if eqb l 0x46 then some (fragment t) else none)
 no_text l t = by_if (OnSome (λ (q : Piece). as_str q ≡ [])) (eqb l 0x46) (λ _. refl) (λ _. tt)
 
@@ -159,18 +159,28 @@ unfolding read_piece push_str
 name_pushed out p a l t n q e ok st m g =
     rw (some_of (λ (x : Piece). as_str x ≡ []) (if eqb l 0x46 then some (fragment t) else none) q (rw (ne_eqb l 0x53 n) at e) (no_text l t)) g
 
+-- a field without content is not read, or a name
+empty_text : (l : ℕ) → OnSome (λ (q : Piece). as_str q ≡ []) (read_piece (whole l []))
+unfolding read_piece
+empty_text l = by_if (OnSome (λ (q : Piece). as_str q ≡ [])) (eqb l 0x53) (λ _. tt) (λ _. no_text l [])
+
+pub text_empty : (out : List ℕ) (p : Line) (a l : ℕ) (t : List ℕ) → length t < 1 → PushesText out p a l t out p
+unfolding push_str
+text_empty out p a l [] h q e ok st m g = rw (some_of (λ (x : Piece). as_str x ≡ []) (read_piece (whole l [])) q e (empty_text l)) g
+text_empty out p a l (b ∷ t) h q e ok st m g = absurd (omega arith)
+
 -- ---- a hole
 
-pub piece_text : (out out' : List ℕ) (p r : Line) (a l : ℕ) (s : List ℕ) (start next : ℕ) (texts : Bool) → texts ≡ true
-    → PushesText out p a l (part start next s) out' r → PushesPiece out p a l s start next texts out' r
+pub piece_text : (out out' : List ℕ) (p r : Line) (a l : ℕ) (t : List ℕ) (texts : Bool) → texts ≡ true
+    → PushesText out p a l t out' r → PushesPiece out p a l t texts out' r
 unfolding push
-piece_text out out' p r a l s start next texts e f w q eq ok st m h = rw e (f q eq ok st m h)
+piece_text out out' p r a l t texts e f q eq ok st m h = rw e (f q eq ok st m h)
 
-pub piece_stands : (out out' : List ℕ) (p r : Line) (a l : ℕ) (s : List ℕ) (start next : ℕ) (texts : Bool) → texts ≡ false
-    → AddsPieces out p (part (start - 3) next s) true true out' r → PushesPiece out p a l s start next texts out' r
+pub piece_stands : (out out' : List ℕ) (p r : Line) (a l : ℕ) (t field : List ℕ) (texts : Bool) → texts ≡ false → raws field ≡ whole l t ∷ []
+    → AddsPieces out p field true true out' r → PushesPiece out p a l t texts out' r
 unfolding add_pieces add_piece read_all all
-piece_stands out out' p r a l s start next texts e f w q eq ok st m h =
-    let pieces : read_all read_piece (raws (part (start - 3) next s)) ≡ some (q ∷ []) = rw (w, read_all) (rw eq) in
+piece_stands out out' p r a l t field texts e w f q eq ok st m h =
+    let pieces : read_all read_piece (raws field) ≡ some (q ∷ []) = rw (w, read_all) (rw eq) in
     rw e (f (q ∷ []) pieces (rw ok) st m h)
 
 -- a hole shown either way has the same columns
@@ -182,12 +192,12 @@ shown_width true a (fragment n) = text_width_nil
 -- ---- the segments before a hole
 
 -- where it begins
-pub at_hole_lem : (pos place end b : ℕ) → place ≤ end → b ≡ pos + (place - (place - end) - pos) → at_hole pos place ≡ b
+pub at_hole_lem : (pos place end b : ℕ) → place ≤ end → b ≡ max pos (min place end) → at_hole pos place ≡ b
 at_hole_lem pos place end b h e =
     ⊎_elim (λ k. rw (lt-ltb pos place k) (omega arith)) (λ k. rw (le-ltb pos place k) (omega arith)) (lt_or_le pos place)
 
 -- pushed up to there
-pub up_to_hole_lem : (a : ℕ) (segs : List ℕ) (l : List Piece) (pos place end b : ℕ) → place ≤ end → b ≡ pos + (place - (place - end) - pos)
+pub up_to_hole_lem : (a : ℕ) (segs : List ℕ) (l : List Piece) (pos place end b : ℕ) → place ≤ end → b ≡ max pos (min place end)
     → push_str l a (to_string (part pos b segs)) ≡ up_to_hole a segs l pos place
 up_to_hole_lem a segs l pos place end b h e =
     ⊎_elim

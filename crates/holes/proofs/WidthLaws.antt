@@ -5,17 +5,19 @@ use mathlib.Core.Bool.{true, false}
 use mathlib.Core.Logic.{⊎_elim}
 use mathlib.Core.Option.{none, some}
 use mathlib.Core.List.{List, [], ◌∷◌, map}
-use Prim.Native.Nat.{ℕ, ◌+◌, ◌-◌, ◌*◌, ◌≤◌}
+use Prim.Native.Nat.{ℕ, ◌+◌, ◌-◌, ◌*◌, ◌≤◌, min, max}
 use native.Mathlib.Omega.{arith}
 use lib.ListN.{length, drop, length-drop}
 use borrow.Author.Tests.{lt-ltb, le-ltb}
 use Rattle.characters.specs.Utf8.{chars}
 use Rattle.characters.proofs.Tests.{and_left, and_right, lt_or_le}
-use Rattle.fields.specs.Field.{whole, broken, raws, read_all, part, all}
+use Rattle.fields.specs.Field.{whole, broken, raws, field_at, read_all, part, all}
+use Rattle.fields.specs.declared.field.Field.{Field}
+use Rattle.fields.specs.declared.field.Field.TheVariants.{At, Broken, End}
 use Rattle.fields.specs.Sheet.{Piece, str, fragment, read_piece, readable_piece}
 use Rattle.fields.specs.Widths.{text_width, piece_width, width}
 use Rattle.fields.proofs.Back.{Every}
-use Rattle.fields.proofs.Fields.{FieldIs}
+use Rattle.fields.proofs.Fields.{FieldIs, field_broken, field_end}
 use Rattle.fields.proofs.Parts.{part_length}
 use Rattle.fields.proofs.Readings.{read_first, read_none}
 use Rattle.borders.specs.declared.draw.Drawing.TheVariants.{Segments}
@@ -24,16 +26,14 @@ use Rattle.borders.proofs.Drawing.{drawn_string, drawn_chars}
 use Rattle.fields.specs.Text.{WellFormed}
 use Rattle.fields.specs.TaggedLine.{WellFormedPiece, push, add_piece}
 use Rattle.rows.proofs.Lines.{push_width, push_formed, add_width, add_formed, readable_formed}
-use Rattle.fields.specs.Spans.{Hole, ends_within, readable_hole}
-use Rattle.places.specs.Hole.{RawAt}
-use Rattle.places.specs.declared.hole.HoleAt.TheVariants.{Broken, End}
-use Rattle.places.proofs.HoleLaws.{FoundHole, hole_torn, hole_none}
+use Rattle.fields.specs.Spans.{Hole, RawHole, punched, torn, raw_holes, ends_within, readable_hole}
+use Rattle.places.proofs.HolesLaws.{read_torn, read_no_holes, raw_size}
 use Rattle.tagged_line.specs.Pieces.{PiecesOf}
 use Rattle.tagged_line.proofs.Holding.{drawn_width}
 use Rattle.holes.specs.Cols.{CountsPiece, CountsPieces, walk_end, EndsAt}
 use Rattle.holes.specs.Drawing.{Fits}
 use Rattle.holes.proofs.Segments.{at_hole_lem}
-use Rattle.holes.proofs.DrawLaws.{fits_first, ends_in, begin_most, few_next, passed, passed_hole}
+use Rattle.holes.proofs.DrawLaws.{FitsLeft, fits_left, fits_first, ends_in, begin_most, few_next, passed, passed_hole, left_in}
 
 -- ---- the pieces of a content
 
@@ -61,75 +61,66 @@ module _ (s : List ℕ) (cols at : ℕ) (w : Passed s cols at) where
             (x.more, x.later, omega (arith, k, ec x.one x.first, eq));
       }
 
-  pub pass_broken : raws (drop at s) ≡ broken ∷ [] → CountsPieces s cols
+  pass_broken : raws (drop at s) ≡ broken ∷ [] → CountsPieces s cols
   unfolding read_all read_piece
   pass_broken b ps e =
       let (rs, er, eq) = w.left ps e in
       let k : none ≡ some rs = sym (ap (read_all read_piece) b) ∙ er in
       absurd (let z : ◌≡◌ {A = ℕ} 0 1 = cc in omega arith)
 
-  pub pass_end : raws (drop at s) ≡ [] → CountsPieces s cols
+  pass_end : raws (drop at s) ≡ [] → CountsPieces s cols
   unfolding width
   pass_end b ps e =
       let (rs, er, eq) = w.left ps e in
       let k : width rs ≡ 0 = ap width (read_none read_piece rs (sym (ap (read_all read_piece) b) ∙ er)) in
       omega (arith, k, eq)
 
+  -- where no field stands
+  pub pass_last : (f : Field) → f ≡ field_at at (drop at s) → ((l st nx : ℕ) → f ≡ At l st nx → ⊥) → CountsPieces s cols
+  pass_last (At l st nx) e n = absurd (n l st nx refl)
+  pass_last Broken e n = pass_broken (field_broken s at (sym e))
+  pass_last End e n = pass_end (field_end s at (sym e))
+
 -- ---- the walk over the holes
 
-pub record Walked (s : List ℕ) (holes end pos at : ℕ) : Type 0 where
-  pub low : holes ≤ at
-  pub inside : at ≤ length s
-  pub few : pos ≤ end + 2 * (at - holes)
-  pub left : (n : ℕ) (hs : List Hole) → Fits n s holes hs → n ≤ end → (rs : List Hole) × Fits n s at rs × (walk_end end pos rs ≡ walk_end end 0 hs)
+pub record Walked (s : List ℕ) (holes end pos : ℕ) (left : List RawHole) : Type 0 where
+  pub inside : raw_size left ≤ length s
+  pub few : pos ≤ end + 2 * passed (length s) left
+  pub left_is : (n : ℕ) (hs : List Hole) → Fits n s holes hs → n ≤ end → (rs : List Hole) × FitsLeft n left rs × (walk_end end pos rs ≡ walk_end end 0 hs)
 
-pub walk_start : (s : List ℕ) (holes end : ℕ) → holes ≤ length s → Walked s holes end 0 holes
-walk_start s holes end h = record { low = omega arith; inside = h; few = omega arith; left = λ n hs f k. (hs, f, refl) }
+pub walk_start : (s : List ℕ) (holes end : ℕ) (left : List RawHole) → left ≡ raw_holes (drop holes s) → Walked s holes end 0 left
+walk_start s holes end left e =
+    record { inside = left_in s holes left e; few = omega arith; left_is = λ n hs f k. (hs, fits_left n s holes hs left e f, refl) }
 
-module _ (s : List ℕ) (holes end pos at : ℕ) (w : Walked s holes end pos at) where
-  pub walk_on : (place m b l st nx c : ℕ) → m ≡ place - (place - end) → b ≡ pos + (m - pos) → FoundHole s at place l st nx
-      → c ≤ 2 * length (part st nx s) → CountsPiece l (part st nx s) c → Walked s holes end (b + c) nx
+module _ (s : List ℕ) (holes end pos : ℕ) (left : List RawHole) (w : Walked s holes end pos left) where
+  pub walk_on : (place m b l : ℕ) (t : List ℕ) (more : List RawHole) (c : ℕ) → m ≡ min place end → b ≡ max pos m → left ≡ punched place (whole l t) ∷ more
+      → c ≤ 2 * length t → CountsPiece l t c → Walked s holes end (b + c) more
   unfolding walk_end
-  walk_on place m b l st nx c em eb f fc ec =
+  walk_on place m b l t more c em eb x fc ec =
+      let d = passed (length s) left in
+      let h = passed_hole (length s) place l t left more w.inside x in
       record {
-        low = omega (arith, f.begins, f.order, w.low);
-        inside = f.inside;
-        few =
-            few_next b c (at - holes) (nx - holes) (nx - st) end (begin_most pos place end m b (2 * (at - holes)) em eb w.few) (rw f.size at fc)
-            (passed_hole at holes st nx f.begins f.order w.low);
-        left = λ n hs fits k.
-            let (rs, fr, eq) = w.left n hs fits k in
-            let x = fits_first n s at place l st nx rs f fr in
-            let hp = x.one.place in
-            let inner : hp ≤ end = omega (arith, x.ends, k) in
-            let eh : b ≡ pos + (hp - (hp - end) - pos) = rw (x.place_is, ← em) eb in
-            let e : b + c ≡ at_hole pos hp + piece_width x.one.piece = omega (arith, at_hole_lem pos hp end b inner eh, ec x.one.piece x.reads) in
-            (x.more, x.goes, ap (λ (i : ℕ). walk_end end i x.more) e ∙ sym (ap (walk_end end pos) x.are) ∙ eq);
+        inside = h.size;
+        few = few_next b c d (passed (length s) more) (length t) end (begin_most pos place end m b (2 * d) em eb w.few) fc h.on;
+        left_is = λ n hs fits k.
+            let (rs, fr, eq) = w.left_is n hs fits k in
+            let f = fits_first n place l t left more rs x fr in
+            let hp = f.one.place in
+            let inner : hp ≤ end = omega (arith, f.ends, k) in
+            let eh : b ≡ max pos (min hp end) = rw (f.place_is, ← em) eb in
+            let e : b + c ≡ at_hole pos hp + piece_width f.one.piece = omega (arith, at_hole_lem pos hp end b inner eh, ec f.one.piece f.reads) in
+            (f.rest, f.goes, ap (λ (i : ℕ). walk_end end i f.rest) e ∙ sym (ap (walk_end end pos) f.are) ∙ eq);
       }
 
-  pub walk_small : (place m b : ℕ) → m ≡ place - (place - end) → b ≡ pos + (m - pos) → b ≤ end + 2 * length s
-  walk_small place m b em eb =
-      let most = begin_most pos place end m b (2 * (at - holes)) em eb w.few in
-      let k = passed at holes (length s) w.inside in
-      small_of b (at - holes) (length s) end most k
-    where
-      small_of : (b d n end : ℕ) → b ≤ end + 2 * d → d ≤ n → b ≤ end + 2 * n
-      small_of b d n end h k = omega arith
+  pub walk_torn : (more : List RawHole) → left ≡ torn ∷ more → EndsAt s holes end pos
+  walk_torn more x n hs fits k = let (rs, fr, eq) = w.left_is n hs fits k in absurd (read_torn more rs (rw x at fr.reads))
 
-  pub walk_broken : RawAt s at Broken → EndsAt s holes end pos
-  walk_broken r n hs fits k = let (rs, fr, eq) = w.left n hs fits k in absurd (hole_torn s at r rs fr.reads)
-
-  pub walk_done : (r : ℕ) → RawAt s at End → r ≡ pos + (end - pos) → EndsAt s holes end r
+  pub walk_done : (r : ℕ) → left ≡ [] → r ≡ max pos end → EndsAt s holes end r
   unfolding walk_end
-  walk_done r t e n hs fits k =
-      let (rs, fr, eq) = w.left n hs fits k in
-      e ∙ sym (ap (walk_end end pos) (hole_none s at t rs fr.reads)) ∙ eq
-
-  pub walk_few : pos ≤ end + 2 * length s
-  walk_few = let k = passed at holes (length s) w.inside in omega (arith, w.few, k)
-
-pub last_few : (pos end n r : ℕ) → pos ≤ end + 2 * n → r ≡ pos + (end - pos) → r ≤ end + 2 * n
-last_few pos end n r h e = omega arith
+  walk_done r x e n hs fits k =
+      let (rs, fr, eq) = w.left_is n hs fits k in
+      let d : r ≡ pos + (end - pos) = omega arith in
+      d ∙ sym (ap (walk_end end pos) (read_no_holes rs (rw x at fr.reads))) ∙ eq
 
 -- ---- it is the columns of `into_tagged_line`
 

@@ -1,8 +1,8 @@
 -- What drawing a border with holes does to the line that it is drawn on.
 -- Assumes nothing: these are definitions.
-use Rattle.std.specs.Prelude.{◌≡◌, Bool, true, false, List, [], ◌∷◌, map, ℕ, ◌+◌, ◌-◌, ◌*◌, ◌≤◌, length}
+use Rattle.std.specs.Prelude.{◌≡◌, Bool, true, false, List, map, ℕ, ◌+◌, ◌-◌, ◌*◌, ◌≤◌, length}
 use Rattle.std.proofs.Math.Option.{some}
-use Rattle.fields.specs.Field.{whole, raws, part, all}
+use Rattle.fields.specs.Field.{whole, part, all}
 use Rattle.fields.specs.Sheet.{Piece, str, read_piece, readable_piece}
 use Rattle.borders.specs.BorderHoriz.{stretch_to, to_string, as_str, into_tagged_from}
 use Rattle.fields.specs.TaggedLine.{push_str, push}
@@ -38,11 +38,10 @@ shown_piece true a q = str a (as_str q)
 abbrev pub shown_hole : Bool → ℕ → Hole → Hole
 shown_hole texts a h = hole h.place (shown_piece texts a h.piece)
 
--- a hole whose field is the one between two places, its head with it
-abbrev pub PushesPiece : List ℕ → Line → ℕ → ℕ → List ℕ → ℕ → ℕ → Bool → List ℕ → Line → Type 0
-PushesPiece out p a letter s start next texts out' r =
-    raws (part (start - 3) next s) ≡ whole letter (part start next s) ∷ []
-    → (q : Piece) → read_piece (whole letter (part start next s)) ≡ some q → readable_piece q ≡ true
+-- a hole, of its field's letter and content
+abbrev pub PushesPiece : List ℕ → Line → ℕ → ℕ → List ℕ → Bool → List ℕ → Line → Type 0
+PushesPiece out p a letter t texts out' r =
+    (q : Piece) → read_piece (whole letter t) ≡ some q → readable_piece q ≡ true
     → (st : List ℕ) (l : List Piece) → Held st l out p → Held st (push l (shown_piece texts a q)) out' r
 
 -- the holes from a place on, each within n segments, whose texts and names passed refusal 3

@@ -5,7 +5,7 @@ ghost use Rattle.holes.specs.Cols.{CountsPiece, CountsPieces, EndsAt, CountsText
 use fields::field::{Field, field_at};
 use fields::width::text_width;
 use places::border::border_parts;
-use places::hole::{HoleAt, hole_at};
+use places::holes::Holes;
 
 // The columns of a line's pieces, and whether it has any.
 #[derive(Clone, Copy)]
@@ -14,32 +14,16 @@ pub struct LineCols {
     pub pieces: bool,
 }
 
-// The larger of two numbers.
-pub fn larger(a: usize, b: usize) -> usize
-    ensures { result ≡ a + (b - a) }
-{
-    if a < b { b } else { a }
-}
-
-// The smaller of two numbers.
-pub fn smaller(a: usize, b: usize) -> usize
-    ensures { result ≡ a - (a - b) }
-{
-    if a < b { a } else { b }
-}
-
 // The columns of a text or a name: a name has none.
 pub fn piece_cols(letter: u8, content: &[u8]) -> usize
     requires { length content.now < 65536 }
     ensures upper_bound { result ≤ 2 * length content.now }
     ensures counts_piece { CountsPiece letter content.now result }
 {
-    if letter == b'S' {
-        if 1 <= content.len() {
-            return text_width(&content[1..]);
-        }
+    match content {
+        [_, text @ ..] if letter == b'S' => text_width(text),
+        _ => 0,
     }
-    0
 }
 
 // The columns of a line's pieces.
@@ -50,25 +34,16 @@ fn pieces_width(content: &[u8]) -> usize
 {
     let mut cols: usize = 0;
     let mut at: usize = 0;
-    loop {
-        let f = field_at(content, at);
-        match f {
-            Field::At {
-                letter,
-                start,
-                next,
-            } => {
-                cols += piece_cols(letter, &content[start..next]);
-                at = next;
-            }
-            Field::Broken => {
-                return cols;
-            }
-            Field::End => {
-                return cols;
-            }
-        }
+    while let Field::At {
+        letter,
+        start,
+        next,
+    } = field_at(content, at)
+    {
+        cols += piece_cols(letter, &content[start..next]);
+        at = next;
     }
+    cols
 }
 
 // The column where the walk over a border of so many segments and its holes ends.
@@ -78,28 +53,14 @@ fn walk_end(content: &[u8], holes: usize, end: usize) -> usize
     ensures ends_at { EndsAt content.now holes end result }
 {
     let mut pos: usize = 0;
-    let mut at = holes;
-    loop {
-        let h = hole_at(content, at);
-        match h {
-            HoleAt::At {
-                place,
-                letter,
-                start,
-                next,
-            } => {
-                let begin = larger(pos, smaller(place, end));
-                pos = begin + piece_cols(letter, &content[start..next]);
-                at = next;
-            }
-            HoleAt::Broken => {
-                return pos;
-            }
-            HoleAt::End => {
-                return larger(pos, end);
-            }
-        }
+    for hole in Holes::new(content, holes) {
+        let Ok(hole) = hole else {
+            return pos;
+        };
+        let begin = pos.max(usize::from(hole.place).min(end));
+        pos = begin + piece_cols(hole.letter, hole.content);
     }
+    pos.max(end)
 }
 
 // The columns of a text line padded to a width, and whether it has a piece.
@@ -108,7 +69,7 @@ fn text_cols(content: &[u8], to: usize) -> LineCols
     ensures cols_bound { result.cols < 2 ^ 18 }
     ensures counts_text { CountsText content.now to result }
 {
-    let cols = larger(pieces_width(content), to);
+    let cols = pieces_width(content).max(to);
     LineCols {
         cols,
         pieces: 0 < content.len() + to,
@@ -121,7 +82,7 @@ fn border_cols(content: &[u8], segs: usize, holes: usize, to: usize) -> LineCols
     ensures cols_bound { result.cols < 2 ^ 18 }
     ensures counts_border { CountsBorder content.now segs holes to result }
 {
-    let end = larger(holes - segs, to);
+    let end = to.max(holes - segs);
     let cols = walk_end(content, holes, end);
     LineCols {
         cols,

@@ -3,11 +3,20 @@ ghost use Rattle.std.specs.Prelude.{◌≡◌, ◌+◌, ◌-◌, ◌*◌, ◌^�
 ghost use Rattle.tagged_line.specs.Held.{Within, LineGrown};
 ghost use Rattle.holes.specs.Drawing.{drawn_most, DrawsPart, PushesText, PushesPiece, DrawsHoles, PushesHoled, PushesTagged};
 
+<<<<<<< HEAD
 use crate::cols::{larger, piece_cols, smaller};
 use borders::draw::Drawing;
 use fields::width::text_width;
 use places::hole::{HoleAt, hole_at};
 use tagged_line::line::Line;
+=======
+use crate::cols::piece_cols;
+use borders::draw::drawn_len;
+use fields::width::text_width;
+use places::holes::{Hole, Holes};
+use tagged_line::line::{Line, push_drawn, push_str};
+use tagged_line::piece::add_pieces;
+>>>>>>> a2e6828deca3aecfb8539f36b3a4714b7f7eae0d
 
 // The segments of a border from one column up to another, Horiz past its own.
 fn push_segments(
@@ -26,9 +35,16 @@ fn push_segments(
         return line;
     }
     let k = segs.len();
+<<<<<<< HEAD
     let a = smaller(from, k);
     let b = smaller(to, k);
     line.push_drawn(out, annotation, &segs[a..b], to - from, Drawing::Segments)
+=======
+    let a = from.min(k);
+    let b = to.min(k);
+    let n = drawn_len(&segs[a..b], false);
+    push_drawn(out, line, annotation, &segs[a..b], n, to - from, false)
+>>>>>>> a2e6828deca3aecfb8539f36b3a4714b7f7eae0d
 }
 
 // The text of a hole under one annotation; of a name nothing.
@@ -37,36 +53,37 @@ fn push_text(out: &mut [u8], line: Line, annotation: u8, letter: u8, content: &[
     ensures line_grown { LineGrown line result (3 + 3 * length content.now) }
     ensures pushes_text { PushesText out.old line annotation letter content.now out.new result }
 {
+<<<<<<< HEAD
     if letter == b'S' {
         if 1 <= content.len() {
             let cols = text_width(&content[1..]);
             return line.push_str(out, annotation, &content[1..], cols);
+=======
+    match content {
+        [_, text @ ..] if letter == b'S' => {
+            push_str(out, line, annotation, text, text_width(text))
+>>>>>>> a2e6828deca3aecfb8539f36b3a4714b7f7eae0d
         }
+        _ => line,
     }
-    line
 }
 
 // A hole: its text under one annotation, or its text or name as it stands.
-fn push_piece(
-    out: &mut [u8],
-    line: Line,
-    annotation: u8,
-    letter: u8,
-    content: &[u8],
-    start: usize,
-    next: usize,
-    texts: bool,
-) -> Line
-    requires le_start { (3 ≤ start) × (start ≤ next) × (next ≤ length content.now) × (length content.now < 65536) }
-    requires within { Within line (13 + 3 * (next - start)) }
-    ensures line_grown { LineGrown line result (9 + 3 * (next - start)) }
-    ensures pushes_piece { PushesPiece out.old line annotation letter content.now start next texts out.new result }
+fn push_piece(out: &mut [u8], line: Line, annotation: u8, hole: Hole, texts: bool) -> Line
+    requires short { length hole.field.now < 65536 }
+    requires within { Within line (13 + 3 * length hole.content.now) }
+    ensures line_grown { LineGrown line result (9 + 3 * length hole.entry.content.now) }
+    ensures pushes_piece { PushesPiece out.old line annotation hole.entry.letter hole.entry.content.now texts out.new result }
 {
     if texts {
-        return push_text(out, line, annotation, letter, &content[start..next]);
+        return push_text(out, line, annotation, hole.letter, hole.content);
     }
+<<<<<<< HEAD
     let field = start - 3;
     line.add_pieces(out, &content[field..next], true, true)
+=======
+    add_pieces(out, line, hole.field, true, true)
+>>>>>>> a2e6828deca3aecfb8539f36b3a4714b7f7eae0d
 }
 
 // The walk of `to_string` and `into_tagged_line`: a border's segments under an annotation, and its holes.
@@ -85,33 +102,20 @@ fn push_holes(
     ensures line_grown { LineGrown line result (drawn_most (length content.now) to) }
     ensures draws_holes { DrawsHoles out.old line annotation content.now segs holes to texts out.new result }
 {
-    let end = larger(holes - segs, to);
+    let own = &content[segs..holes];
+    let end = to.max(own.len());
     let mut drawn = line;
     let mut pos: usize = 0;
-    let mut at = holes;
-    loop {
-        let h = hole_at(content, at);
-        match h {
-            HoleAt::At {
-                place,
-                letter,
-                start,
-                next,
-            } => {
-                let begin = larger(pos, smaller(place, end));
-                drawn = push_segments(out, drawn, annotation, &content[segs..holes], pos, begin);
-                drawn = push_piece(out, drawn, annotation, letter, content, start, next, texts);
-                pos = begin + piece_cols(letter, &content[start..next]);
-                at = next;
-            }
-            HoleAt::Broken => {
-                return drawn;
-            }
-            HoleAt::End => {
-                return push_segments(out, drawn, annotation, &content[segs..holes], pos, end);
-            }
-        }
+    for hole in Holes::new(content, holes) {
+        let Ok(hole) = hole else {
+            return drawn;
+        };
+        let begin = pos.max(usize::from(hole.place).min(end));
+        drawn = push_segments(out, drawn, annotation, own, pos, begin);
+        drawn = push_piece(out, drawn, annotation, hole, texts);
+        pos = begin + piece_cols(hole.letter, hole.content);
     }
+    push_segments(out, drawn, annotation, own, pos, end)
 }
 
 // `to_string` of a border stretched to a width, under an annotation, where no holes overlap.
@@ -132,13 +136,6 @@ pub fn push_holed(
     push_holes(out, line, annotation, content, segs, holes, to, true)
 }
 
-// The annotation of a border: its content's first byte.
-fn annotation_of(content: &[u8]) -> u8
-    ensures { result ≡ get_or content.now 0 0 }
-{
-    if content.len() == 0 { 0 } else { content[0] }
-}
-
 // `into_tagged_line` of a border stretched to a width, pushed piece by piece: segments under the border's own annotation.
 pub fn push_tagged(
     out: &mut [u8],
@@ -153,6 +150,6 @@ pub fn push_tagged(
     ensures line_grown { LineGrown line result (drawn_most (length content.now) to) }
     ensures pushes_tagged { PushesTagged out.old line content.now segs holes to out.new result }
 {
-    let annotation = annotation_of(content);
+    let annotation = content.first().copied().unwrap_or_default();
     push_holes(out, line, annotation, content, segs, holes, to, false)
 }

@@ -3,7 +3,7 @@ ghost use Rattle.std.specs.Prelude.{◌<◌, length};
 ghost use Rattle.holes.specs.Overlap.{FindsOverlap};
 
 use crate::cols::piece_cols;
-use places::hole::{HoleAt, hole_at};
+use places::holes::Holes;
 
 // `to_string` of a border of so many segments would panic: a hole begins before the one ahead of it ends, or past the last segment.
 pub fn overlaps(content: &[u8], holes: usize, count: usize) -> bool
@@ -11,31 +11,15 @@ pub fn overlaps(content: &[u8], holes: usize, count: usize) -> bool
     ensures { FindsOverlap content.now holes count result }
 {
     let mut pos: usize = 0;
-    let mut at = holes;
-    loop {
-        let h = hole_at(content, at);
-        match h {
-            HoleAt::At {
-                place,
-                letter,
-                start,
-                next,
-            } => {
-                if place < pos {
-                    return true;
-                }
-                if count < place {
-                    return true;
-                }
-                pos = place + piece_cols(letter, &content[start..next]);
-                at = next;
-            }
-            HoleAt::Broken => {
-                return false;
-            }
-            HoleAt::End => {
-                return false;
-            }
+    for hole in Holes::new(content, holes) {
+        let Ok(hole) = hole else {
+            return false;
+        };
+        let place = usize::from(hole.place);
+        if place < pos || count < place {
+            return true;
         }
+        pos = place + piece_cols(hole.letter, hole.content);
     }
+    false
 }

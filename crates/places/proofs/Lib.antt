@@ -1,2 +1,3 @@
+pub mod HolesLaws
 pub mod HoleLaws
 pub mod BorderLaws

@@ -1,11 +1,8 @@
 -- What `hole_at` finds at a place of a G field's content.
 -- Assumes nothing: these are definitions.
 use Rattle.std.specs.Prelude.{◌≡◌, List, [], ◌∷◌, ℕ, ◌+◌, ◌≤◌, ◌<◌, length, drop}
-use Rattle.std.proofs.Math.Option.{some}
 use Rattle.fields.specs.Field.{whole, part}
-use Rattle.fields.specs.Sheet.{read_piece}
-use Rattle.fields.specs.Spans.{Hole, punched, torn, raw_holes}
-use Rattle.fields.specs.Places.{HolesFrom}
+use Rattle.fields.specs.Spans.{punched, torn, raw_holes}
 use Rattle.places.specs.declared.hole.HoleAt.{HoleAt}
 use Rattle.places.specs.declared.hole.HoleAt.TheVariants.{At, Broken, End}
 
@@ -20,12 +17,3 @@ abbrev pub RawAt : List ℕ → ℕ → HoleAt → Type 0
 RawAt s at (At place letter start next) = raw_holes (drop at s) ≡ punched place (whole letter (part start next s)) ∷ raw_holes (drop next s)
 RawAt s at Broken = raw_holes (drop at s) ≡ torn ∷ []
 RawAt s at End = raw_holes (drop at s) ≡ []
-
--- the first of holes that are read, and where the others stand
-pub record FirstHole (s : List ℕ) (place letter start next : ℕ) (hs : List Hole) : Type 0 where
-  pub one : Hole
-  pub more : List Hole
-  pub are : hs ≡ one ∷ more
-  pub place_is : one.place ≡ place
-  pub reads : read_piece (whole letter (part start next s)) ≡ some one.piece
-  pub goes : HolesFrom s next more

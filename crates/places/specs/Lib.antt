@@ -1,2 +1,3 @@
 pub mod Hole
+pub mod Holes
 pub mod Border

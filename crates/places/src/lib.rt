@@ -3,3 +3,4 @@
 
 pub mod border;
 pub mod hole;
+pub mod holes;

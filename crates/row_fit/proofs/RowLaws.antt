@@ -99,15 +99,15 @@ any_is x h cols any false e = or_false any ∙ e ∙ same_ltb 0 h 0 (max h 0) (�
     or_false false = refl
 
 -- the larger of two, past a place
-max_past : (x b d a d₀ r : ℕ) → r ≡ b - x → d - x ≡ d₀ → a ≡ r + (d₀ - r) → a ≡ max b d - x
+max_past : (x b d a d₀ r : ℕ) → r ≡ b - x → d - x ≡ d₀ → a ≡ max r d₀ → a ≡ max b d - x
 max_past x b d a d₀ r e f g = omega arith
 
 shift : (x b w r n : ℕ) → r ≡ b - x → n ≡ r - (w + 1) → n ≡ b - (x + w + 1)
 shift x b w r n e f = omega arith
 
 -- ONE SEAT FURTHER.
-pub reaches : (r n : Reach) (edge : Bool) (fit : SeatFit) (width d₀ a e₀ border f₀ holes : ℕ) → d₀ ≡ edge_to 0 edge → a ≡ r.border + (d₀ - r.border)
-    → e₀ ≡ join_to 0 fit.join → border ≡ a + (e₀ - a) → f₀ ≡ hole_to 0 fit.hole fit.cols → holes ≡ r.holes + (f₀ - r.holes)
+pub reaches : (r n : Reach) (edge : Bool) (fit : SeatFit) (width d₀ a e₀ border f₀ holes : ℕ) → d₀ ≡ edge_to 0 edge → a ≡ max r.border d₀
+    → e₀ ≡ join_to 0 fit.join → border ≡ max a e₀ → f₀ ≡ hole_to 0 fit.hole fit.cols → holes ≡ max r.holes f₀
     → n.border ≡ border - (width + 1) → n.holes ≡ holes - (width + 1)
     → n.over ≡ over_of r.over border holes → n.any ≡ (r.any || fit.hole) → Reaches r edge fit width n
 reaches r n edge fit width d₀ a e₀ border f₀ holes zd ea ze eb zf eh nb nh ov na x b h q =

@@ -71,7 +71,7 @@ stretch_length b w = omega (arith, length-append b (replicate (w - length b) Hor
 
 -- A G can be drawn unless its holes overlap.
 pub crosses_holed : (letter : ℕ) (t : List ℕ) (to : ℕ) (p : Parts) (count : ℕ) (r : Bool) → letter ≡ 0x47 → PartsIn t p → FindsParts letter t p
-    → count ≡ (p.holes - p.segs) + (to - (p.holes - p.segs)) → FindsOverlap t p.holes count r → LineCrosses letter t to r
+    → count ≡ max (p.holes - p.segs) to → FindsOverlap t p.holes count r → LineCrosses letter t to r
 crosses_holed letter t to p count r k i f n g l e = go l e (line_border letter t l e (λ z. absurd (omega (arith, k, z))))
   where
     go : (l : RenderLine) → read_line (whole letter t) ≡ some l → is_border l ≡ true → r ≡ line_overlaps to l

@@ -5,7 +5,6 @@ ghost use Rattle.row_fit.specs.Seat.{FitIn};
 ghost use Rattle.row_fit.specs.Row.{edge_to, join_to, hole_to, over_of, ReachIn, ReachIs, Reaches, FitsSeat, FindsRowFit};
 
 use crate::seat::{SeatFit, either, seat_fit};
-use holes::cols::larger;
 use slots::seat::{Next, Seat, Slots, next_slot};
 
 // How far the border below a row and its holes reach past a place, whether the holes reach further, and whether there is one.
@@ -86,8 +85,8 @@ fn reach_on(r: Reach, edge: bool, fit: SeatFit, width: usize) -> Reach
     ensures reach_in { ReachIn result }
     ensures reaches { Reaches r edge fit width result }
 {
-    let border = larger(larger(r.border, edge_to(edge)), join_to(fit.join));
-    let holes = larger(r.holes, hole_to(fit.hole, fit.cols));
+    let border = r.border.max(edge_to(edge)).max(join_to(fit.join));
+    let holes = r.holes.max(hole_to(fit.hole, fit.cols));
     Reach {
         border: less(border, width + 1),
         holes: less(holes, width + 1),

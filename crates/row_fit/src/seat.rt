@@ -7,7 +7,7 @@ use bodies::body::body_of;
 use bodies::walk::skip_lines;
 use borders::border::Side;
 use fields::field::{Field, field_at};
-use holes::cols::{LineCols, larger, line_cols};
+use holes::cols::{LineCols, line_cols};
 use holes::overlap::overlaps;
 use places::border::border_parts;
 
@@ -30,7 +30,7 @@ fn line_overlaps(letter: u8, content: &[u8], to: usize) -> bool
         return false;
     }
     let parts = border_parts(letter, content);
-    let count = larger(parts.holes - parts.segs, to);
+    let count = (parts.holes - parts.segs).max(to);
     overlaps(content, parts.holes, count)
 }
 

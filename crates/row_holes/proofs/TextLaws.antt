@@ -4,7 +4,7 @@ use mathlib.Core.Path.{◌≡◌, refl, sym, ap, subst, ◌∙◌}
 use mathlib.Core.Bool.{Bool, true, false, not}
 use mathlib.Core.Logic.{inl, ⊎_elim}
 use mathlib.Core.List.{List, [], ◌∷◌, ◌++◌, map, append-nil}
-use Prim.Native.Nat.{ℕ, ◌+◌, ◌-◌, ◌^◌, ◌≤◌, ◌<◌}
+use Prim.Native.Nat.{ℕ, ◌+◌, ◌-◌, ◌^◌, ◌≤◌, ◌<◌, min}
 use native.Mathlib.Omega.{arith}
 use lib.Dec.{leb, ltb}
 use lib.ListN.{length, drop, replicate, drop_of_length-le}
@@ -163,10 +163,10 @@ unfolding stretch_to
 stretch_none b = let e : 0 - length b ≡ 0 = omega arith in rw e (append-nil b)
 
 -- None are left up to the place.
-pub segments_none : (out : List ℕ) (p : Line) (a : ℕ) (segs : List ℕ) (x to : ℕ) → to ≡ x - (x - length segs) → to ≤ p.cols → PushesSegments out p a segs x out p
+pub segments_none : (out : List ℕ) (p : Line) (a : ℕ) (segs : List ℕ) (x to : ℕ) → to ≡ min x (length segs) → to ≤ p.cols → PushesSegments out p a segs x out p
 segments_none out p a segs x to e h k st l g = rw (le-ltb p.cols x (omega arith)) g
 
-pub segments_drawn : (out out' : List ℕ) (p r : Line) (a : ℕ) (segs : List ℕ) (x to : ℕ) → to ≡ x - (x - length segs) → p.cols < to
+pub segments_drawn : (out out' : List ℕ) (p r : Line) (a : ℕ) (segs : List ℕ) (x to : ℕ) → to ≡ min x (length segs) → p.cols < to
     → Draws out p a (part p.cols to segs) 0 Segments out' r → PushesSegments out p a segs x out' r
 segments_drawn out out' p r a segs x to e h d k st l g =
     let same : to ≡ x = omega arith in

@@ -12,7 +12,7 @@ use bodies::walk::skip_lines;
 use borders::draw::Drawing;
 use extend_lines::line::Lines;
 use fields::field::{Field, field_at};
-use holes::cols::{line_cols, smaller};
+use holes::cols::line_cols;
 use holes::draw::push_tagged;
 use long_borders::position::advance;
 use places::border::border_parts;
@@ -27,7 +27,7 @@ fn push_segments(out: &mut [u8], line: Line, annotation: u8, segs: &[u8], x: usi
     ensures pushes_segments { PushesSegments out.old line annotation segs.now x out.new result }
 {
     let pos = line.cols;
-    let to = smaller(x, segs.len());
+    let to = x.min(segs.len());
     if to <= pos {
         return line;
     }

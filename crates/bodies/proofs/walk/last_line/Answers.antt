@@ -1,6 +1,6 @@
--- `walk::last_line` meets its contract. Assumes nothing.
+-- `walk::last_line` meets its contract.
+-- Assumes nothing.
 use Rattle.bodies.proofs.walk.last_line.Goals as goal
 
-pub returns : goal.returns
-returns c =
-    record { last_in = c.walk_lines-w.ensures.walked_in.last_in; finds_last = λ ls h. (c.walk_lines-w.ensures.walks ls h).last_is }
+pub returns-clause-finds_last : goal.returns-clause-finds_last
+returns-clause-finds_last c = rw c.unwrap_or.ensures (λ ls h. (c.walk_lines.ensures.walks ls h).last_is)

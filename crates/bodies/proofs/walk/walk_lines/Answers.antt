@@ -1,34 +1,52 @@
+-- `walk::walk_lines` meets its contract.
+-- Assumes nothing.
 use mathlib.Core.Path.{sym, subst, ◌∙◌}
 use native.Mathlib.Omega.{arith}
+use borrow.Author.Tests.{eq-eqb, ne_eqb}
 use Rattle.fields.specs.Field.{Short}
-use Rattle.bodies.proofs.LineLaws.{passes_start, passes_on, passes_end, passes_broken, passes_ended, numbers_start, numbers_on, numbers_end, numbers_broken}
+use Rattle.bodies.proofs.LineLaws.{passes_start, passes_on, passes_end, passes_missing, numbers_start, numbers_on, numbers_end, numbers_missing}
 use Rattle.bodies.proofs.FieldLaws.{found_at}
 use Rattle.bodies.proofs.walk.walk_lines.Goals as goal
 
 pub loop-at-init : goal.loop-at-init
-loop-at-init c =
-    (numbers_start _ _ _, passes_start _ _ _)
+loop-at-init c = record { numbers = numbers_start _ _ _; passes = passes_start _ _ _; there = tt }
 
-pub overflow_add-count : goal.overflow_add-count
-overflow_add-count c =
-    omega (arith, c.loop-at.invariant.0.fewer)
+pub loop-at-smaller-then-letter-eq71 : goal.loop-at-smaller-then-letter-eq71
+loop-at-smaller-then-letter-eq71 c =
+    let f = found_at _ _ _ _ _ (sym c.field_at.ensures.value ∙ c.in-At.is) in omega (arith, f.next_is)
 
 pub loop-at-smaller : goal.loop-at-smaller
 loop-at-smaller c =
-    let f = found_at _ _ _ _ _ (sym c.field_at-f.ensures.value ∙ c.in-At.is) in omega (arith, f.next_is)
+    let f = found_at _ _ _ _ _ (sym c.field_at.ensures.value ∙ c.in-At.is) in omega (arith, f.next_is)
+
+pub loop-at-preserved-then-letter-eq71 : goal.loop-at-preserved-then-letter-eq71
+loop-at-preserved-then-letter-eq71 c =
+    let e = sym c.field_at.ensures.value ∙ c.in-At.is in
+    record {
+      numbers = numbers_on _ _ _ _ _ _ _ _ _ c.loop-at.invariant.numbers c.loop-at-test.true (found_at _ _ _ _ _ e) (subst Short c.in-At.is c.field_at.ensures.short);
+      passes = passes_on _ _ _ _ _ _ _ _ _ _ _ c.loop-at.invariant.passes c.loop-at-test.true e (rw (eq-eqb c.in-At.letter 0x47 c.if-letter-eq71.true));
+      there = c.loop-at-test.true;
+    }
 
 pub loop-at-preserved : goal.loop-at-preserved
 loop-at-preserved c =
-    let e = sym c.field_at-f.ensures.value ∙ c.in-At.is in (numbers_on _ _ _ _ _ _ _ _ _ c.loop-at.invariant.0 c.loop-at-test.true (found_at _ _ _ _ _ e) (subst Short c.in-At.is c.field_at-f.ensures.short), passes_on _ _ _ _ _ _ _ _ _ _ _ c.loop-at.invariant.1 c.loop-at-test.true e c.meets_holes-holed.ensures)
+    let e = sym c.field_at.ensures.value ∙ c.in-At.is in
+    record {
+      numbers = numbers_on _ _ _ _ _ _ _ _ _ c.loop-at.invariant.numbers c.loop-at-test.true (found_at _ _ _ _ _ e) (subst Short c.in-At.is c.field_at.ensures.short);
+      passes = passes_on _ _ _ _ _ _ _ _ _ _ _ c.loop-at.invariant.passes c.loop-at-test.true e (rw (ne_eqb c.in-At.letter 0x47 c.if-letter-eq71.false));
+      there = c.loop-at-test.true;
+    }
 
-pub returns-in-Broken : goal.returns-in-Broken
-returns-in-Broken c =
-    record { walked_in = numbers_broken _ _ _ _ _ _ _ c.loop-at.invariant.0; walks = passes_broken _ _ _ _ _ _ _ _ c.loop-at.invariant.1 c.loop-at-test.true (sym c.field_at-f.ensures.value ∙ c.in-Broken.is) }
-
-pub returns-in-End : goal.returns-in-End
-returns-in-End c =
-    record { walked_in = numbers_broken _ _ _ _ _ _ _ c.loop-at.invariant.0; walks = passes_ended _ _ _ _ _ _ _ _ c.loop-at.invariant.1 c.loop-at-test.true (sym c.field_at-f.ensures.value ∙ c.in-End.is) }
+pub returns-in_default : goal.returns-in_default
+returns-in_default c =
+    record {
+      walked_in = numbers_missing _ _ _ _ _ _ _ c.loop-at.invariant.numbers;
+      walks = passes_missing _ _ _ _ _ _ _ c.field_at.result _ c.loop-at.invariant.passes c.loop-at-test.true c.field_at.ensures.value c.in_default.not-At;
+    }
 
 pub returns : goal.returns
 returns c =
-    record { walked_in = numbers_end _ _ _ _ _ _ _ c.loop-at.invariant.0 c.loop-at-test.false; walks = passes_end _ _ _ _ _ _ _ c.loop-at.invariant.1 c.loop-at-test.false }
+    record {
+      walked_in = numbers_end _ _ _ _ _ c.loop-at.invariant.numbers c.loop-at.invariant.there c.loop-at-test.false;
+      walks = passes_end _ _ _ _ _ c.loop-at.invariant.passes c.loop-at-test.false;
+    }

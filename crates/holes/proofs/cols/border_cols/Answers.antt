@@ -7,4 +7,4 @@ use Rattle.holes.proofs.cols.border_cols.Goals as goal
 
 pub returns : goal.returns
 returns c =
-    record { cols_bound = search rules; counts_border = border_counts c.args.content.now _ _ _ _ _ c.requires.1 c.larger-end.ensures c.walk_end-cols.ensures.ends_at refl }
+    record { cols_bound = search rules; counts_border = border_counts c.args.content.now _ _ _ _ _ c.requires.1 c.max-end.ensures c.walk_end-cols.ensures.ends_at refl }

@@ -7,4 +7,4 @@ use Rattle.holes.proofs.cols.text_cols.Goals as goal
 
 pub returns : goal.returns
 returns c =
-    record { cols_bound = search rules; counts_text = text_counts c.args.content.now c.args.to _ _ c.pieces_width.ensures.counts_pieces c.larger-cols.ensures refl }
+    record { cols_bound = search rules; counts_text = text_counts c.args.content.now c.args.to _ _ c.pieces_width.ensures.counts_pieces c.max-cols.ensures refl }

@@ -1,12 +1,8 @@
 -- `overlap::overlaps` meets its contract: what the holes left give is what all give.
 -- Assumes nothing.
+use Rattle.places.specs.Holes.{holes_left}
 use Rattle.holes.proofs.OverlapLaws.{Looks}
-use lib.ListN.{length}
-use Prim.Native.Nat.{◌-◌}
 use Rattle.holes.proofs.overlap.overlaps.Given as goal
 
-abbrev pub invariant-loop-place : goal.invariant-loop-place
-invariant-loop-place l = Looks l.content l.holes l.count l.pos l.at
-
-abbrev pub decreases-loop-place : goal.decreases-loop-place
-decreases-loop-place l = length l.content - l.at
+abbrev pub invariant-loop-hole : goal.invariant-loop-hole
+invariant-loop-hole l = Looks l.content l.holes l.count l.pos (holes_left l.hole-iterator)

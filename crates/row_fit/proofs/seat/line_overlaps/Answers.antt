@@ -8,4 +8,4 @@ returns-then-letter-ne71 c =
 
 pub returns : goal.returns
 returns c =
-    crosses_holed _ _ _ c.border_parts-parts.result _ _ c.if-letter-ne71.false c.border_parts-parts.ensures.parts_in c.border_parts-parts.ensures.finds_parts c.larger-count.ensures c.overlaps.ensures
+    crosses_holed _ _ _ c.border_parts-parts.result _ _ c.if-letter-ne71.false c.border_parts-parts.ensures.parts_in c.border_parts-parts.ensures.finds_parts c.max-count.ensures c.overlaps.ensures
