@@ -13,8 +13,8 @@ use Rattle.std.specs.Prelude.{Result, Ok, Err, IsErr, if◌then◌else◌}
 use Rattle.std.proofs.lemmas.Result.{MatchResult-from_err}
 use Rattle.characters.specs.Columns.{width_of}
 use Rattle.characters.specs.Whitespace.{always_takes_space}
-use Rattle.characters.specs.Utf8.{decode_of, chars}
-use Rattle.characters.specs.declared.utf8.Decoded.TheVariants.{Char, Bad}
+use Rattle.characters.specs.Utf8.{char, decode_of, chars}
+use Rattle.std.specs.Prelude as rust
 use Rattle.characters.proofs.Tests.{by_if}
 use Rattle.characters.proofs.RoundTrip.{decode_sound, decode_size, chars_nil, chars_step, chars_bad, some_cons}
 use Rattle.fields.specs.Job.{Mode, normal, pre, pre_wrap}
@@ -226,11 +226,11 @@ module _ (frame : Frame) (run : Run) (w : Walk) (code : ℕ) (lb lt wb wt out lb
 -- ---- the first character of a text
 
 -- a text that begins with no character has none
-no_chars : (text cs : List ℕ) → decode_of text ≡ Bad → chars text ≡ some cs → cs ≡ []
+no_chars : (text cs : List ℕ) → decode_of text ≡ rust.None → chars text ≡ some cs → cs ≡ []
 no_chars [] cs e q = cc chars_nil
 no_chars (b ∷ t) cs e q = absurd (let z : ◌≡◌ {A = ℕ} 0 1 = cc (chars_bad (b ∷ t) (omega arith) e) in omega arith)
 
-module _ (text : List ℕ) (c k : ℕ) (e : decode_of text ≡ Char c k) where
+module _ (text : List ℕ) (c k : ℕ) (e : decode_of text ≡ char c k) where
   -- The bytes of a character are as many as it says.
   pub first_length : length (take k text) ≡ k
   first_length = length-take-le k text (decode_size text c k e).2
@@ -356,7 +356,7 @@ module _ {frame : Frame} {run : Run} {text lb₀ lt₀ wb₀ wt₀ out₀ : List
       }
 
   -- Where no character is left the walk is made.
-  pub walking_ends : decode_of (take (length text - at) (drop at text)) ≡ Bad
+  pub walking_ends : decode_of (take (length text - at) (drop at text)) ≡ rust.None
       → AddsText frame run start.st text lb₀ lt₀ wb₀ wt₀ out₀ (Ok cur.st) lb lt wb wt out
   walking_ends e d₀ base b m main wrap cs k i t =
       let g = inv.gone d₀ base b m main wrap cs k i t in
@@ -367,7 +367,7 @@ module _ {frame : Frame} {run : Run} {text lb₀ lt₀ wb₀ wt₀ out₀ : List
         keeps = g.keeps.keeps;
       }
 
-  module _ (c k : ℕ) (e : decode_of (take (length text - at) (drop at text)) ≡ Char c k) where
+  module _ (c k : ℕ) (e : decode_of (take (length text - at) (drop at text)) ≡ char c k) where
     -- The character's bytes lie inside the text.
     pub char_inside : at + k ≤ length text
     char_inside = let d = decode_size (take (length text - at) (drop at text)) c k e in let i = inv.inside in omega (arith, part_len text at, d.2)

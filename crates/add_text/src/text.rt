@@ -5,7 +5,7 @@ ghost use Rattle.add_text.specs.Walks.{RunSmall, TextSmall, AddsText};
 
 use crate::runs::add_plain;
 use crate::walk::{Walk, add_char};
-use characters::utf8::{Decoded, decode};
+use characters::utf8::decode;
 use flush_word::state::State;
 use hard_wrap::error::TooNarrow;
 use hard_wrap::line::Frame;
@@ -56,17 +56,12 @@ pub fn add_text(
         let past = add_plain(frame, run, cur, &text[at..], wb, wt);
         cur = past.w;
         at += past.len;
-        let d = decode(&text[at..]);
-        match d {
-            Decoded::Char { code, len } => {
-                let end = at + len;
-                let part = &text[at..end];
-                cur = add_char(frame, run, cur, code, part, lb, lt, wb, wt, out)?;
-                at = end;
-            }
-            Decoded::Bad => {
-                return Ok(cur.st);
-            }
-        }
+        let Some(first) = decode(&text[at..]) else {
+            return Ok(cur.st);
+        };
+        let end = at + first.len;
+        let part = &text[at..end];
+        cur = add_char(frame, run, cur, first.code, part, lb, lt, wb, wt, out)?;
+        at = end;
     }
 }

@@ -13,13 +13,14 @@ use lib.Dec.{ltb, leb, eqb}
 use lib.ListN.{length, drop, get_or, length-append, length-drop, drop_of_length-le}
 use lib.Seq.{drop-drop, drop-cons}
 use Rattle.std.specs.Prelude.{if◌then◌else◌}
-use Rattle.characters.specs.Utf8.{utf8, decode_of, Scalar}
+use Rattle.characters.specs.Utf8.{utf8, char as first_char, decode_of, Scalar}
 use Rattle.characters.specs.Columns.{or_zero, cols}
 use Rattle.characters.specs.Whitespace.{is_whitespace}
-use Rattle.characters.specs.declared.utf8.Decoded.TheVariants.{Char, Bad}
+use Rattle.std.specs.Prelude as rust
+use Rattle.characters.specs.declared.utf8.Char.{Char}
 use Rattle.characters.proofs.Tests.{by_if}
 use Rattle.characters.proofs.Tables.{ascii_one}
-use Rattle.characters.proofs.RoundTrip.{decode_complete}
+use Rattle.characters.proofs.RoundTrip.{same_char, decode_complete}
 use Rattle.fields.specs.Job.{Mode, normal, pre, pre_wrap}
 use Rattle.fields.specs.declared.job.Setup.{Setup}
 use Rattle.block.specs.Tag.{Tag, is_pre}
@@ -37,26 +38,26 @@ use Rattle.flush_word.specs.declared.state.Blanks.{Blanks}
 -- ---- the first character
 
 module _ (part : List ℕ) where
-  decoded : (c : ℕ) (rest : List ℕ) → Scalar c → part ≡ utf8 c ++ rest → decode_of part ≡ Char c (length (utf8 c))
+  decoded : (c : ℕ) (rest : List ℕ) → Scalar c → part ≡ utf8 c ++ rest → decode_of part ≡ first_char c (length (utf8 c))
   decoded c rest v e = rw e (decode_complete c v rest)
 
-  module _ (code len : ℕ) (d : decode_of part ≡ Char code len) where
+  module _ (code len : ℕ) (d : decode_of part ≡ first_char code len) where
     pub white_is : is_whitespace code ≡ true → White part len
     white_is w = λ c rest v f.
-        let g : Char code len ≡ Char c (length (utf8 c)) = sym d ∙ decoded c rest v f in
-        let x : code ≡ c = cc in
-        let y : len ≡ length (utf8 c) = cc in
+        let g : first_char code len ≡ first_char c (length (utf8 c)) = sym d ∙ decoded c rest v f in
+        let x : code ≡ c = (same_char g).0 in
+        let y : len ≡ length (utf8 c) = (same_char g).1 in
         rw (← x, w, x) y
 
     pub white_not : is_whitespace code ≡ false → White part 0
     white_not w = λ c rest v f.
-        let g : Char code len ≡ Char c (length (utf8 c)) = sym d ∙ decoded c rest v f in
-        let x : code ≡ c = cc in
+        let g : first_char code len ≡ first_char c (length (utf8 c)) = sym d ∙ decoded c rest v f in
+        let x : code ≡ c = (same_char g).0 in
         rw (← x, w)
 
-  pub white_bad : decode_of part ≡ Bad → White part 0
+  pub white_bad : decode_of part ≡ rust.None → White part 0
   white_bad d = λ c rest v f.
-      let g : Bad ≡ Char c (length (utf8 c)) = sym d ∙ decoded c rest v f in
+      let g : ◌≡◌ {A = rust.Option Char} rust.None (first_char c (length (utf8 c))) = sym d ∙ decoded c rest v f in
       absurd (let z : ◌≡◌ {A = ℕ} 0 1 = cc in omega arith)
 
 -- ---- the front

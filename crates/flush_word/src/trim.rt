@@ -2,7 +2,7 @@
 ghost use Rattle.std.specs.Prelude.{◌≡◌, ◌≤◌, length};
 ghost use Rattle.flush_word.specs.Trims.{White, TrimsFront, TrimsBack};
 
-use characters::utf8::{Decoded, decode};
+use characters::utf8::decode;
 use characters::whitespace::is_whitespace;
 use lines::encode::MARK;
 
@@ -11,10 +11,9 @@ fn white_len(part: &[u8]) -> usize
     ensures upper_bound { result ≤ length part.now }
     ensures white { White part.now result }
 {
-    let d = decode(part);
-    match d {
-        Decoded::Char { code, len } => { if is_whitespace(code) { len } else { 0 } }
-        Decoded::Bad => 0,
+    match decode(part) {
+        Some(first) if is_whitespace(first.code) => first.len,
+        _ => 0,
     }
 }
 

@@ -8,7 +8,7 @@ ghost use Rattle.hard_wrap.specs.Walk.{Shows, Widths};
 use crate::numbers::least;
 use characters::columns::char_width;
 use characters::plain::{Plain, plain_run};
-use characters::utf8::{Decoded, decode};
+use characters::utf8::decode;
 
 // A character's bytes and columns.
 #[derive(Clone, Copy, Debug, PartialEq, Eq)]
@@ -23,13 +23,12 @@ pub fn glyph(part: &[u8]) -> Shape
     ensures len_nonzero { (0 < result.len) × (result.len ≤ length part.now) × (result.cols ≤ 2) }
     ensures shows { Shows part.now result.len result.cols }
 {
-    let d = decode(part);
-    match d {
-        Decoded::Char { code, len } => {
-            let cols = char_width(code);
-            Shape { len, cols }
-        }
-        Decoded::Bad => Shape { len: 1, cols: 0 },
+    match decode(part) {
+        Some(first) => Shape {
+            len: first.len,
+            cols: char_width(first.code),
+        },
+        None => Shape { len: 1, cols: 0 },
     }
 }
 

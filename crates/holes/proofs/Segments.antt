@@ -121,13 +121,8 @@ push_part_none l a from to s h = rw (part_none from to s h, string_nil)
 pub drawn_none : (out : List ℕ) (p : Line) (a : ℕ) (segs : List ℕ) (from to : ℕ) → to ≤ from → DrawsPart out p a segs from to out p
 drawn_none out p a segs from to h w k st l g = rw (push_part_none l a from to (stretch_to segs w) h) g
 
-<<<<<<< HEAD
-pub drawn_part : (out out' : List ℕ) (p r : Line) (c : ℕ) (segs : List ℕ) (from to a b : ℕ) → from < to → a ≡ from - (from - length segs)
-    → b ≡ to - (to - length segs) → Draws out p c (part a b segs) (to - from) Segments out' r → DrawsPart out p c segs from to out' r
-=======
 pub drawn_part : (out out' : List ℕ) (p r : Line) (c : ℕ) (segs : List ℕ) (from to a b : ℕ) → from < to → a ≡ min from (length segs)
-    → b ≡ min to (length segs) → Draws out p c (part a b segs) (to - from) false out' r → DrawsPart out p c segs from to out' r
->>>>>>> a2e6828deca3aecfb8539f36b3a4714b7f7eae0d
+    → b ≡ min to (length segs) → Draws out p c (part a b segs) (to - from) Segments out' r → DrawsPart out p c segs from to out' r
 drawn_part out out' p r c segs from to a b h ea eb d w k st l g =
     let e : drawn Segments (stretch_to (part a b segs) (to - from)) ≡ to_string (part from to (stretch_to segs w)) =
     drawn_string (stretch_to (part a b segs) (to - from)) ∙ ap to_string (part_stretched segs w from to a b h (omega arith) ea eb) in

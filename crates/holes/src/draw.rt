@@ -3,20 +3,11 @@ ghost use Rattle.std.specs.Prelude.{◌≡◌, ◌+◌, ◌-◌, ◌*◌, ◌^�
 ghost use Rattle.tagged_line.specs.Held.{Within, LineGrown};
 ghost use Rattle.holes.specs.Drawing.{drawn_most, DrawsPart, PushesText, PushesPiece, DrawsHoles, PushesHoled, PushesTagged};
 
-<<<<<<< HEAD
-use crate::cols::{larger, piece_cols, smaller};
+use crate::cols::piece_cols;
 use borders::draw::Drawing;
 use fields::width::text_width;
-use places::hole::{HoleAt, hole_at};
-use tagged_line::line::Line;
-=======
-use crate::cols::piece_cols;
-use borders::draw::drawn_len;
-use fields::width::text_width;
 use places::holes::{Hole, Holes};
-use tagged_line::line::{Line, push_drawn, push_str};
-use tagged_line::piece::add_pieces;
->>>>>>> a2e6828deca3aecfb8539f36b3a4714b7f7eae0d
+use tagged_line::line::Line;
 
 // The segments of a border from one column up to another, Horiz past its own.
 fn push_segments(
@@ -35,16 +26,9 @@ fn push_segments(
         return line;
     }
     let k = segs.len();
-<<<<<<< HEAD
-    let a = smaller(from, k);
-    let b = smaller(to, k);
-    line.push_drawn(out, annotation, &segs[a..b], to - from, Drawing::Segments)
-=======
     let a = from.min(k);
     let b = to.min(k);
-    let n = drawn_len(&segs[a..b], false);
-    push_drawn(out, line, annotation, &segs[a..b], n, to - from, false)
->>>>>>> a2e6828deca3aecfb8539f36b3a4714b7f7eae0d
+    line.push_drawn(out, annotation, &segs[a..b], to - from, Drawing::Segments)
 }
 
 // The text of a hole under one annotation; of a name nothing.
@@ -53,16 +37,9 @@ fn push_text(out: &mut [u8], line: Line, annotation: u8, letter: u8, content: &[
     ensures line_grown { LineGrown line result (3 + 3 * length content.now) }
     ensures pushes_text { PushesText out.old line annotation letter content.now out.new result }
 {
-<<<<<<< HEAD
-    if letter == b'S' {
-        if 1 <= content.len() {
-            let cols = text_width(&content[1..]);
-            return line.push_str(out, annotation, &content[1..], cols);
-=======
     match content {
         [_, text @ ..] if letter == b'S' => {
-            push_str(out, line, annotation, text, text_width(text))
->>>>>>> a2e6828deca3aecfb8539f36b3a4714b7f7eae0d
+            line.push_str(out, annotation, text, text_width(text))
         }
         _ => line,
     }
@@ -78,12 +55,7 @@ fn push_piece(out: &mut [u8], line: Line, annotation: u8, hole: Hole, texts: boo
     if texts {
         return push_text(out, line, annotation, hole.letter, hole.content);
     }
-<<<<<<< HEAD
-    let field = start - 3;
-    line.add_pieces(out, &content[field..next], true, true)
-=======
-    add_pieces(out, line, hole.field, true, true)
->>>>>>> a2e6828deca3aecfb8539f36b3a4714b7f7eae0d
+    line.add_pieces(out, hole.field, true, true)
 }
 
 // The walk of `to_string` and `into_tagged_line`: a border's segments under an annotation, and its holes.

@@ -6,17 +6,17 @@ use Rattle.characters.proofs.RoundTrip.{decode_size}
 use Rattle.flush_word.proofs.Trimming.{white_is, white_not, white_bad}
 use Rattle.flush_word.proofs.trim.white_len.Goals as goal
 
-pub returns-then-is_whitespace : goal.returns-then-is_whitespace
-returns-then-is_whitespace c =
-    let d = sym c.decode-d.ensures ∙ c.in-Char.is in
+pub returns-in-Some : goal.returns-in-Some
+returns-in-Some c =
+    let d = sym c.decode.ensures ∙ c.in-Some.is in
     let z = decode_size c.args.part.now _ _ d in
     record { upper_bound = z.2; white = white_is c.args.part.now _ _ d (sym c.is_whitespace.ensures ∙ c.if-is_whitespace.true) }
 
-pub returns-else-is_whitespace : goal.returns-else-is_whitespace
-returns-else-is_whitespace c =
-    let d = sym c.decode-d.ensures ∙ c.in-Char.is in
+pub returns-in_default : goal.returns-in_default
+returns-in_default c =
+    let d = sym c.decode.ensures ∙ c.in-Some.is in
     record { upper_bound = omega arith; white = white_not c.args.part.now _ _ d (sym c.is_whitespace.ensures ∙ c.if-is_whitespace.false) }
 
-pub returns-in-Bad : goal.returns-in-Bad
-returns-in-Bad c =
-    record { upper_bound = omega arith; white = white_bad c.args.part.now (sym c.decode-d.ensures ∙ c.in-Bad.is) }
+pub returns-in_default-2 : goal.returns-in_default-2
+returns-in_default-2 c =
+    record { upper_bound = omega arith; white = white_bad c.args.part.now (sym c.decode.ensures ∙ c.in_default.is) }

@@ -6,12 +6,12 @@ use Rattle.characters.proofs.RoundTrip.{decode_size}
 use Rattle.hard_wrap.proofs.Glyphs.{shown, shown_bad}
 use Rattle.hard_wrap.proofs.glyph.glyph.Goals as goal
 
-pub returns-in-Char : goal.returns-in-Char
-returns-in-Char c =
-    let d = sym c.decode-d.ensures ∙ c.in-Char.is in
+pub returns-in-Some : goal.returns-in-Some
+returns-in-Some c =
+    let d = sym c.decode.ensures ∙ c.in-Some.is in
     let z = decode_size c.args.part.now _ _ d in
-    record { len_nonzero = (z.0, z.2, c.char_width-cols.ensures.upper_bound); shows = shown c.args.part.now _ _ _ d c.char_width-cols.ensures.value }
+    record { len_nonzero = (z.0, z.2, c.char_width.ensures.upper_bound); shows = shown c.args.part.now _ _ _ d c.char_width.ensures.value }
 
-pub returns-in-Bad : goal.returns-in-Bad
-returns-in-Bad c =
-    record { len_nonzero = (omega arith, search rules, omega arith); shows = shown_bad c.args.part.now (sym c.decode-d.ensures ∙ c.in-Bad.is) }
+pub returns-in-None : goal.returns-in-None
+returns-in-None c =
+    record { len_nonzero = (omega arith, search rules, omega arith); shows = shown_bad c.args.part.now (sym c.decode.ensures ∙ c.in-None.is) }
