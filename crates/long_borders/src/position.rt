@@ -2,11 +2,14 @@
 ghost use Rattle.std.specs.Prelude.{◌<◌};
 ghost use Rattle.long_borders.specs.Keeps.{Advances};
 
+// The cap.
+const CAP: usize = 4294967296;
+
 // A position moved on by d columns; past the cap it stays.
 pub fn advance(x: usize, d: usize) -> usize
     requires { (x < 8589934592) × (d < 1048576) }
     ensures upper_bound { result < 8589934592 }
     ensures advances { Advances x d result }
 {
-    if x < 4294967296 { x + d } else { x }
+    if x < CAP { x + d } else { x }
 }
