@@ -23,6 +23,8 @@ use Rattle.rows.specs.Columns.{overlaps, holed_text}
 use Rattle.places.proofs.HolesLaws.{read_first_hole, read_torn, read_no_holes, raw_size, raw_size-cons, raw_size_in}
 use Rattle.tagged_line.specs.Held.{Within, LineGrown, Held}
 use Rattle.tagged_line.specs.declared.line.Line.{Line}
+use Rattle.holes.specs.declared.draw.Shown.{Shown}
+use Rattle.holes.specs.declared.draw.Shown.TheVariants.{AsText, AsItStands}
 use Rattle.tagged_line.proofs.Laying.{grown_none}
 use Rattle.holes.specs.Cols.{CountsPiece}
 use Rattle.holes.specs.Drawing.{drawn_most, DrawsPart, shown_piece, shown_hole, PushesPiece, Fits, DrawsHoles, PushesHoled, PushesTagged}
@@ -140,7 +142,7 @@ left_in s at left e = rw e (omega (arith, raw_size_in (drop at s), length-drop a
 
 -- ---- the walk
 
-module _ (out₀ : List ℕ) (p₀ : Line) (a : ℕ) (s : List ℕ) (segs holes to : ℕ) (texts : Bool) (end : ℕ) where
+module _ (out₀ : List ℕ) (p₀ : Line) (a : ℕ) (s : List ℕ) (segs holes to : ℕ) (shown : Shown) (end : ℕ) where
   -- up to the holes that are left, and to a column, the border is drawn
   pub record Drawing (out : List ℕ) (p : Line) (pos : ℕ) (left : List RawHole) : Type 0 where
     pub inside : raw_size left ≤ length s
@@ -149,8 +151,8 @@ module _ (out₀ : List ℕ) (p₀ : Line) (a : ℕ) (s : List ℕ) (segs holes 
     pub grown : LineGrown p₀ p (8 * pos + 3 * passed (length s) left)
     pub left_is : (hs : List Hole) → Fits (length (part segs holes s)) s holes hs → (st : List ℕ) (l : List Piece) → Held st l out₀ p₀
         → (m : List Piece) × (rs : List Hole) × FitsLeft (length (part segs holes s)) left rs × Held st m out p
-        × (into_tagged_from a (stretch_to (part segs holes s) to) m pos (map (shown_hole texts a) rs)
-        ≡ into_tagged_from a (stretch_to (part segs holes s) to) l 0 (map (shown_hole texts a) hs))
+        × (into_tagged_from a (stretch_to (part segs holes s) to) m pos (map (shown_hole shown a) rs)
+        ≡ into_tagged_from a (stretch_to (part segs holes s) to) l 0 (map (shown_hole shown a) hs))
 
   -- before the first hole
   pub draw_start : (n : ℕ) (left : List RawHole) → left ≡ raw_holes (drop holes s) → Within p₀ n → Drawing out₀ p₀ 0 left
@@ -186,7 +188,7 @@ module _ (out₀ : List ℕ) (p₀ : Line) (a : ℕ) (s : List ℕ) (segs holes 
             (room_piece b d (length t) (length s) to end most end_most (passed_hole (length s) place l t left more w.inside x).all_fit)
 
         module _ (c : ℕ) (out1 out2 : List ℕ) (p1 p2 : Line) (g1 : LineGrown p p1 (4 + 8 * (b - pos))) (d1 : DrawsPart out p a (part segs holes s) pos b out1 p1)
-            (g2 : LineGrown p1 p2 (9 + 3 * length t)) (d2 : PushesPiece out1 p1 a l t texts out2 p2)
+            (g2 : LineGrown p1 p2 (9 + 3 * length t)) (d2 : PushesPiece out1 p1 a l t shown out2 p2)
             (fc : c ≤ 2 * length t) (ec : CountsPiece l t c) where
           next_few : b + c ≤ end + 2 * passed (length s) more
           next_few =
@@ -221,40 +223,40 @@ module _ (out₀ : List ℕ) (p₀ : Line) (a : ℕ) (s : List ℕ) (segs holes 
                     let far : b - pos ≤ length S - pos = rw end_length (reaches pos m end b eb (min_most place end m em)) in
                     let held1 : Held st₀ (up_to_hole a S m₁ pos hp) out1 p1 = rw (up_to_hole_lem a S m₁ pos hp end b inner eh) at (d1 to far st₀ m₁ hm) in
                     let held2 = d2 q f.reads f.readable st₀ (up_to_hole a S m₁ pos hp) held1 in
-                    let n : b + c ≡ at_hole pos hp + piece_width (shown_piece texts a q) =
-                    omega (arith, at_hole_lem pos hp end b inner eh, shown_width texts a q, ec q f.reads) in (
-                      push (up_to_hole a S m₁ pos hp) (shown_piece texts a q),
+                    let n : b + c ≡ at_hole pos hp + piece_width (shown_piece shown a q) =
+                    omega (arith, at_hole_lem pos hp end b inner eh, shown_width shown a q, ec q f.reads) in (
+                      push (up_to_hole a S m₁ pos hp) (shown_piece shown a q),
                       f.rest,
                       f.goes,
                       held2,
-                      ap (λ (i : ℕ). into_tagged_from a S (push (up_to_hole a S m₁ pos hp) (shown_piece texts a q)) i (map (shown_hole texts a) f.rest)) n
-                          ∙ sym (ap (λ (k : List Hole). into_tagged_from a S m₁ pos (map (shown_hole texts a) k)) f.are)
+                      ap (λ (i : ℕ). into_tagged_from a S (push (up_to_hole a S m₁ pos hp) (shown_piece shown a q)) i (map (shown_hole shown a) f.rest)) n
+                          ∙ sym (ap (λ (k : List Hole). into_tagged_from a S m₁ pos (map (shown_hole shown a) k)) f.are)
                           ∙ eq,
                     );
               }
 
       -- a rest that is no hole is not there
-      pub draw_torn : (more : List RawHole) → left ≡ torn ∷ more → DrawsHoles out₀ p₀ a s segs holes to texts out p
+      pub draw_torn : (more : List RawHole) → left ≡ torn ∷ more → DrawsHoles out₀ p₀ a s segs holes to shown out p
       draw_torn more x hs fits st l held =
           let (m, rs, fr, hm, eq) = w.left_is hs fits st l held in absurd (read_torn more rs (rw x at fr.reads))
 
       -- past the last hole
       pub draw_end : (out1 : List ℕ) (p1 : Line) → left ≡ [] → DrawsPart out p a (part segs holes s) pos end out1 p1
-          → DrawsHoles out₀ p₀ a s segs holes to texts out1 p1
+          → DrawsHoles out₀ p₀ a s segs holes to shown out1 p1
       unfolding into_tagged_from
       draw_end out1 p1 x d hs fits st l held =
           let (m, rs, fr, hm, eq) = w.left_is hs fits st l held in
           let S = stretch_to (part segs holes s) to in
           let far : end - pos ≤ length S - pos = rw end_length (omega arith) in
           let rest : part pos end S ≡ drop pos S = take_all (end - pos) (drop pos S) (rw (length-drop, end_length) (omega arith)) in
-          let done : push_str m a (to_string (drop pos S)) ≡ into_tagged_from a S l 0 (map (shown_hole texts a) hs) =
-          sym (ap (λ (k : List Hole). into_tagged_from a S m pos (map (shown_hole texts a) k)) (read_no_holes rs (rw x at fr.reads))) ∙ eq in
+          let done : push_str m a (to_string (drop pos S)) ≡ into_tagged_from a S l 0 (map (shown_hole shown a) hs) =
+          sym (ap (λ (k : List Hole). into_tagged_from a S m pos (map (shown_hole shown a) k)) (read_no_holes rs (rw x at fr.reads))) ∙ eq in
           rw (← done, ← rest) (d to far st m hm)
 
 -- ---- `to_string` and `into_tagged_line`
 
 -- holes shown as they stand
-as_stands : (a : ℕ) (hs : List Hole) → map (shown_hole false a) hs ≡ hs
+as_stands : (a : ℕ) (hs : List Hole) → map (shown_hole AsItStands a) hs ≡ hs
 as_stands a [] = refl
 as_stands a (h ∷ hs) = ap (λ (l : List Hole). h ∷ l) (as_stands a hs)
 
@@ -264,7 +266,7 @@ not_false false e = sym e
 
 -- WHERE NO HOLES OVERLAP, the walk with texts under one annotation pushes what `to_string` gives.
 pub holed_walk : (a : ℕ) (segs : List ℕ) (l : List Piece) (pos : ℕ) (hs : List Hole) → overlaps segs pos hs ≡ false
-    → into_tagged_from a segs l pos (map (shown_hole true a) hs) ≡ push_str l a (holed_text segs pos hs)
+    → into_tagged_from a segs l pos (map (shown_hole AsText a) hs) ≡ push_str l a (holed_text segs pos hs)
 unfolding into_tagged_from overlaps holed_text push
 holed_walk a segs l pos [] e = refl
 holed_walk a segs l pos (h ∷ hs) e =
@@ -277,19 +279,19 @@ holed_walk a segs l pos (h ∷ hs) e =
     let eh : h.place ≡ max pos (min h.place h.place) = omega arith in
     let le : h.place ≤ h.place = omega arith in
     let u : push_str l a X ≡ up_to_hole a segs l pos h.place = up_to_hole_lem a segs l pos h.place h.place h.place le eh in
-    let n : at_hole pos h.place + piece_width (str a Y) ≡ h.place + k = omega (arith, at_hole_lem pos h.place h.place h.place le eh, shown_width true a h.piece) in
-    ap₂ (λ (m : List Piece) (i : ℕ). into_tagged_from a segs (push_str m a Y) i (map (shown_hole true a) hs)) (sym u) n
+    let n : at_hole pos h.place + piece_width (str a Y) ≡ h.place + k = omega (arith, at_hole_lem pos h.place h.place h.place le eh, shown_width AsText a h.piece) in
+    ap₂ (λ (m : List Piece) (i : ℕ). into_tagged_from a segs (push_str m a Y) i (map (shown_hole AsText a) hs)) (sym u) n
     ∙ holed_walk a segs (push_str (push_str l a X) a Y) (h.place + k) hs (or_right (not (sliceable pos h.place segs)) (overlaps segs (h.place + k) hs) e)
     ∙ push_twice (push_str l a X) a Y Z
     ∙ push_twice l a X (Y ++ Z)
 
-pub pushed_holed : (out out' : List ℕ) (p r : Line) (c : ℕ) (s : List ℕ) (segs holes to : ℕ) → DrawsHoles out p c s segs holes to true out' r
+pub pushed_holed : (out out' : List ℕ) (p r : Line) (c : ℕ) (s : List ℕ) (segs holes to : ℕ) → DrawsHoles out p c s segs holes to AsText out' r
     → PushesHoled out p c s segs holes to out' r
 pushed_holed out out' p r c s segs holes to d a ss hs b ok apart st l h =
     rw (← holed_walk c (stretch_to ss to) l 0 hs apart)
     (rw b.segments at (d hs (record { reads = b.punched; within = rw b.segments b.within; readable = ok }) st l h))
 
-pub pushed_tagged : (out out' : List ℕ) (p r : Line) (c : ℕ) (s : List ℕ) (segs holes to : ℕ) → c ≡ get_or s 0 0 → DrawsHoles out p c s segs holes to false out' r
+pub pushed_tagged : (out out' : List ℕ) (p r : Line) (c : ℕ) (s : List ℕ) (segs holes to : ℕ) → c ≡ get_or s 0 0 → DrawsHoles out p c s segs holes to AsItStands out' r
     → PushesTagged out p s segs holes to out' r
 pushed_tagged out out' p r c s segs holes to ec d a ss hs b ok st l h =
     rw (as_stands c hs, b.segments, ec ∙ b.annotation)

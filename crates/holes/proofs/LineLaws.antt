@@ -1,7 +1,7 @@
 -- The columns of a line that is filled, and where it has a piece.
 -- Assumes nothing.
 use mathlib.Core.Path.{◌≡◌, refl, sym, ap, ◌∙◌}
-use mathlib.Core.Bool.{◌&&◌}
+use mathlib.Core.Bool.{Bool, true, false, ◌&&◌}
 use mathlib.Core.Logic.{⊎_elim}
 use mathlib.Core.Option.{Option, none, some, map}
 use mathlib.Core.List.{List, [], ◌∷◌}
@@ -10,6 +10,9 @@ use native.Mathlib.Omega.{arith}
 use lib.Dec.{leb, ltb, eqb}
 use lib.ListN.{length, take, drop, replicate, length-append, length-drop}
 use borrow.Author.Tests.{le-leb, lt-ltb, le-ltb, eq-eqb, ne_eqb}
+use Rattle.std.proofs.Common.{Option as Maybe, Some, None, unwrap_or}
+use Rattle.std.specs.Option.{is_some}
+use Rattle.std.specs.Bool.{then_some}
 use Rattle.characters.specs.Utf8.{text_bytes}
 use Rattle.characters.proofs.Tests.{by_if, lt_or_le}
 use Rattle.fields.specs.Field.{Raw, whole, broken, raws_f, raws, both, read_all, part, all}
@@ -29,8 +32,7 @@ use Rattle.places.specs.Border.{FindsParts}
 use Rattle.places.specs.declared.border.Parts.{Parts}
 use Rattle.places.proofs.HolesLaws.{holes_none, read_no_holes}
 use Rattle.tagged_line.specs.Pieces.{PiecesOf}
-use Rattle.holes.specs.Cols.{CountsPieces, walk_end, EndsAt, CountsText, CountsBorder, CountsLine}
-use Rattle.holes.specs.declared.cols.LineCols.{LineCols}
+use Rattle.holes.specs.Cols.{Counts, CountsPieces, walk_end, EndsAt, CountsText, CountsBorder, CountsLine}
 use Rattle.holes.proofs.Segments.{stretch_length}
 use Rattle.holes.proofs.WidthLaws.{formed, walk_width}
 
@@ -137,6 +139,13 @@ some_test : (n : ℕ) (ps : List Piece) → (0 < n → 1 ≤ length ps) → (n �
 some_test n ps f g =
     ⊎_elim (λ h. lt-ltb 0 n h ∙ sym (le-leb 1 (length ps) (f h))) (λ h. le-ltb 0 n h ∙ sym (ap (λ (l : List Piece). leb 1 (length l)) (g (omega arith)))) (lt_or_le 0 n)
 
+-- the columns, if there is a piece
+counted : (ps : List Piece) (r : Maybe ℕ) (any : Bool) (cols : ℕ) → r ≡ then_some any cols → cols ≡ width ps → any ≡ leb 1 (length ps) → Counts r ps
+counted [] r any cols e w s = rw s at e
+counted (p ∷ ps) r any cols e w s =
+    let t : any ≡ true = s ∙ le-leb 1 (length (p ∷ ps)) (omega arith) in
+    rw (t, w) at e
+
 -- ---- a text
 
 pad_width : (ps : List Piece) (to a : ℕ) → Every WellFormedPiece ps → width (pad_to ps to a) ≡ width ps + (to - width ps)
@@ -158,15 +167,13 @@ no_pieces [] ps h e = read_none read_piece ps (sym (ap (read_all read_piece) raw
 no_pieces (b ∷ s) ps h e = absurd (omega arith)
 
 -- THE COLUMNS OF A PADDED TEXT, AND ITS PIECES.
-pub text_counts : (s : List ℕ) (to own : ℕ) (r : LineCols) → CountsPieces s own → r.cols ≡ max own to → r.pieces ≡ ltb 0 (length s + to)
+pub text_counts : (s : List ℕ) (to own cols : ℕ) (r : Maybe ℕ) → CountsPieces s own → cols ≡ max own to → r ≡ then_some (ltb 0 (length s + to)) cols
     → CountsText s to r
-text_counts s to own r c ec ep a ps e ok =
+text_counts s to own cols r c ec ep a ps e ok =
     let f = every_from WellFormedPiece readable_piece formed ps ok in
     let w = pad_width ps to a f in
-    record {
-      cols = omega (arith, ec, c ps e, w);
-      pieces = ep ∙ some_test (length s + to) (pad_to ps to a) (has_piece w) has_none;
-    }
+    counted (pad_to ps to a) r (ltb 0 (length s + to)) cols ep (omega (arith, ec, c ps e, w))
+    (some_test (length s + to) (pad_to ps to a) (has_piece w) has_none)
   where
     has_piece : width (pad_to ps to a) ≡ width ps + (to - width ps) → 0 < length s + to → 1 ≤ length (pad_to ps to a)
     has_piece w h =
@@ -191,19 +198,18 @@ unfolding walk_end
 end_plain end = omega arith
 
 -- THE COLUMNS OF A STRETCHED BORDER, AND ITS PIECES.
-pub border_counts : (s : List ℕ) (segs holes to end : ℕ) (r : LineCols) → holes ≤ length s → end ≡ max to (holes - segs)
-    → EndsAt s holes end r.cols → r.pieces ≡ ltb 0 (length s - holes + end) → CountsBorder s segs holes to r
+pub border_counts : (s : List ℕ) (segs holes to end cols : ℕ) (r : Maybe ℕ) → holes ≤ length s → end ≡ max to (holes - segs)
+    → EndsAt s holes end cols → r ≡ then_some (ltb 0 (length s - holes + end)) cols → CountsBorder s segs holes to r
 unfolding width
-border_counts s segs holes to end r k ee c ep a ss hs b ok =
+border_counts s segs holes to end cols r k ee c ep a ss hs b ok =
     let n : length ss ≡ holes - segs = sym (ap length b.segments) ∙ part_length segs holes s k in
     let m : length (stretch_to ss to) ≡ end = stretch_length ss to ∙ omega (arith, n, ee) in
     let long : length ss ≤ end = omega (arith, n, ee) in
     let w : width (into_tagged_from a (stretch_to ss to) [] 0 hs) ≡ walk_end end 0 hs =
     walk_width a (stretch_to ss to) (length ss) [] 0 hs (omega (arith, m, long)) b.within ok tt refl ∙ ap (λ (i : ℕ). walk_end i 0 hs) m in
-    record {
-      cols = c (length ss) hs (record { reads = b.punched; within = b.within; readable = ok }) long ∙ sym w;
-      pieces = ep ∙ some_test (length s - holes + end) (into_tagged_from a (stretch_to ss to) [] 0 hs) (has_piece m w) (has_none m);
-    }
+    counted (into_tagged_from a (stretch_to ss to) [] 0 hs) r (ltb 0 (length s - holes + end)) cols ep
+    (c (length ss) hs (record { reads = b.punched; within = b.within; readable = ok }) long ∙ sym w)
+    (some_test (length s - holes + end) (into_tagged_from a (stretch_to ss to) [] 0 hs) (has_piece m w) (has_none m))
   where
     -- no bytes behind the segments, no holes
     none_left : length s ≤ holes → hs ≡ []
@@ -235,7 +241,7 @@ no_border none a ss hs e = let z : ◌≡◌ {A = ℕ} 0 1 = cc in omega arith
 no_border (some x) a ss hs e = let z : ◌≡◌ {A = ℕ} 0 1 = cc in omega arith
 
 -- an L field is a text
-pub text_line : (l : ℕ) (s : List ℕ) (to : ℕ) (r : LineCols) → l ≡ 0x4C → CountsText s to r → CountsLine l s to r
+pub text_line : (l : ℕ) (s : List ℕ) (to : ℕ) (r : Maybe ℕ) → l ≡ 0x4C → CountsText s to r → CountsLine l s to r
 unfolding read_line filled
 text_line l s to r h c (text ps) o e ok = c o.annotation ps (read_text_lem (read_all read_piece (raws s)) ps (rw (eq-eqb l 0x4C h) at e)) ok
 text_line l s to r h c (border a ss hs) o e ok = absurd (no_border (read_all read_piece (raws s)) a ss hs (rw (eq-eqb l 0x4C h) at e))
@@ -270,8 +276,21 @@ line_border l s n =
     (by_if (OnSome IsBorder) (eqb l 0x42) (λ _. plain_border_lem s) (λ _. by_if (OnSome IsBorder) (eqb l 0x47) (λ _. holed_border_lem s) (λ _. tt)))
 
 -- another is a border
-pub border_line : (l : ℕ) (s : List ℕ) (to : ℕ) (p : Parts) (r : LineCols) → (l ≡ 0x4C → ⊥) → FindsParts l s p → CountsBorder s p.segs p.holes to r
+pub border_line : (l : ℕ) (s : List ℕ) (to : ℕ) (p : Parts) (r : Maybe ℕ) → (l ≡ 0x4C → ⊥) → FindsParts l s p → CountsBorder s p.segs p.holes to r
     → CountsLine l s to r
 unfolding filled border_into_tagged_line
 border_line l s to p r n f c (text ps) o e ok = absurd (some_of IsBorder (read_line (whole l s)) (text ps) e (line_border l s n))
 border_line l s to p r n f c (border a ss hs) o e ok = c a ss hs (f a ss hs e) ok
+
+-- ---- what the columns tell
+
+-- whether a line has a piece
+pub has_pieces : (r : Maybe ℕ) (ps : List Piece) → Counts r ps → is_some r ≡ leb 1 (length ps)
+has_pieces r [] e = rw e refl
+has_pieces r (p ∷ ps) e = rw e (sym (le-leb 1 (length (p ∷ ps)) (omega arith)))
+
+-- its columns
+pub own_cols : (r : Maybe ℕ) (ps : List Piece) → Counts r ps → unwrap_or r 0 ≡ width ps
+unfolding width
+own_cols r [] e = rw e refl
+own_cols r (p ∷ ps) e = rw e refl

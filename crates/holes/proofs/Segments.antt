@@ -29,6 +29,8 @@ use Rattle.rows.proofs.Lines.{text_width_nil, readable_formed}
 use Rattle.tagged_line.specs.Held.{Pushes, Draws}
 use Rattle.tagged_line.specs.Pieces.{AddsPieces}
 use Rattle.tagged_line.specs.declared.line.Line.{Line}
+use Rattle.holes.specs.declared.draw.Shown.{Shown}
+use Rattle.holes.specs.declared.draw.Shown.TheVariants.{AsText, AsItStands}
 use Rattle.holes.specs.Drawing.{DrawsPart, PushesText, shown_piece, PushesPiece}
 
 -- ---- a stretched border
@@ -166,23 +168,23 @@ text_empty out p a l (b ∷ t) h q e ok st m g = absurd (omega arith)
 
 -- ---- a hole
 
-pub piece_text : (out out' : List ℕ) (p r : Line) (a l : ℕ) (t : List ℕ) (texts : Bool) → texts ≡ true
-    → PushesText out p a l t out' r → PushesPiece out p a l t texts out' r
+pub piece_text : (out out' : List ℕ) (p r : Line) (a l : ℕ) (t : List ℕ) (shown : Shown) → shown ≡ AsText
+    → PushesText out p a l t out' r → PushesPiece out p a l t shown out' r
 unfolding push
-piece_text out out' p r a l t texts e f q eq ok st m h = rw e (f q eq ok st m h)
+piece_text out out' p r a l t shown e f q eq ok st m h = rw e (f q eq ok st m h)
 
-pub piece_stands : (out out' : List ℕ) (p r : Line) (a l : ℕ) (t field : List ℕ) (texts : Bool) → texts ≡ false → raws field ≡ whole l t ∷ []
-    → AddsPieces out p field true true out' r → PushesPiece out p a l t texts out' r
+pub piece_stands : (out out' : List ℕ) (p r : Line) (a l : ℕ) (t field : List ℕ) (shown : Shown) → shown ≡ AsItStands → raws field ≡ whole l t ∷ []
+    → AddsPieces out p field true true out' r → PushesPiece out p a l t shown out' r
 unfolding add_pieces add_piece read_all all
-piece_stands out out' p r a l t field texts e w f q eq ok st m h =
+piece_stands out out' p r a l t field shown e w f q eq ok st m h =
     let pieces : read_all read_piece (raws field) ≡ some (q ∷ []) = rw (w, read_all) (rw eq) in
     rw e (f (q ∷ []) pieces (rw ok) st m h)
 
 -- a hole shown either way has the same columns
-pub shown_width : (texts : Bool) (a : ℕ) (q : Piece) → piece_width (shown_piece texts a q) ≡ piece_width q
-shown_width false a q = refl
-shown_width true a (str b t) = refl
-shown_width true a (fragment n) = text_width_nil
+pub shown_width : (shown : Shown) (a : ℕ) (q : Piece) → piece_width (shown_piece shown a q) ≡ piece_width q
+shown_width AsItStands a q = refl
+shown_width AsText a (str b t) = refl
+shown_width AsText a (fragment n) = text_width_nil
 
 -- ---- the segments before a hole
 

@@ -1,6 +1,6 @@
 -- The columns that are counted of holes, pieces and lines.
 -- Assumes nothing: these are definitions.
-use Rattle.std.specs.Prelude.{◌≡◌, true, List, [], ◌∷◌, ℕ, ◌+◌, ◌-◌, ◌≤◌, leb, length}
+use Rattle.std.specs.Prelude.{◌≡◌, true, List, [], ◌∷◌, ℕ, ◌+◌, ◌-◌, ◌≤◌, Option, Some, None}
 use Rattle.std.proofs.Math.Option.{some}
 use Rattle.fields.specs.Field.{whole, all}
 use Rattle.fields.specs.Sheet.{Piece, read_piece, readable_piece}
@@ -13,7 +13,6 @@ use Rattle.rows.specs.SubRenderer.{into_tagged_line, filled}
 use Rattle.places.specs.Border.{BorderAt}
 use Rattle.tagged_line.specs.Pieces.{PiecesOf}
 use Rattle.holes.specs.Drawing.{Fits}
-use Rattle.holes.specs.declared.cols.LineCols.{LineCols}
 
 -- `piece_cols`
 abbrev pub CountsPiece : ℕ → List ℕ → ℕ → Type 0
@@ -32,22 +31,26 @@ walk_end end pos (h ∷ hs) = walk_end end (at_hole pos h.place + piece_width h.
 abbrev pub EndsAt : List ℕ → ℕ → ℕ → ℕ → Type 0
 EndsAt s holes end r = (n : ℕ) (hs : List Hole) → Fits n s holes hs → n ≤ end → r ≡ walk_end end 0 hs
 
--- the columns of pieces, and whether there is at least one
-pub record Counts (r : LineCols) (ps : List Piece) : Type 0 where
-  pub cols : r.cols ≡ width ps
-  pub pieces : r.pieces ≡ leb 1 (length ps)
+-- the columns of pieces, if there is at least one
+abbrev pub cols_of : List Piece → Option ℕ
+cols_of [] = None
+cols_of (p ∷ ps) = Some (width (p ∷ ps))
+
+-- a number of columns is theirs
+abbrev pub Counts : Option ℕ → List Piece → Type 0
+Counts r ps = r ≡ cols_of ps
 
 -- `text_cols`: of the text padded to a width
-abbrev pub CountsText : List ℕ → ℕ → LineCols → Type 0
+abbrev pub CountsText : List ℕ → ℕ → Option ℕ → Type 0
 CountsText s to r = (a : ℕ) (ps : List Piece) → PiecesOf s ps → all readable_piece ps ≡ true → Counts r (pad_to ps to a)
 
 -- `border_cols`: of the border stretched to a width
-abbrev pub CountsBorder : List ℕ → ℕ → ℕ → ℕ → LineCols → Type 0
+abbrev pub CountsBorder : List ℕ → ℕ → ℕ → ℕ → Option ℕ → Type 0
 CountsBorder s segs holes to r =
     (a : ℕ) (ss : List ℕ) (hs : List Hole) → BorderAt s segs holes a ss hs → all readable_hole hs ≡ true
     → Counts r (into_tagged_from a (stretch_to ss to) [] 0 hs)
 
 -- `line_cols`: of the line that a field is, filled to a width
-abbrev pub CountsLine : ℕ → List ℕ → ℕ → LineCols → Type 0
+abbrev pub CountsLine : ℕ → List ℕ → ℕ → Option ℕ → Type 0
 CountsLine letter s to r =
     (l : RenderLine) (o : RenderOptions) → read_line (whole letter s) ≡ some l → readable_line l ≡ true → Counts r (into_tagged_line (filled o to l))

@@ -12,6 +12,8 @@ use Rattle.fields.specs.Places.{HolesFrom}
 use Rattle.places.specs.Border.{BorderAt}
 use Rattle.tagged_line.specs.Held.{Held}
 use Rattle.tagged_line.specs.declared.line.Line.{Line}
+use Rattle.holes.specs.declared.draw.Shown.{Shown}
+use Rattle.holes.specs.declared.draw.Shown.TheVariants.{AsText, AsItStands}
 
 -- the most bytes and the most columns that a border of a content of n bytes, stretched to a width, adds to a line
 abbrev pub drawn_most : ℕ → ℕ → ℕ
@@ -30,19 +32,19 @@ PushesText out p a letter t out' r =
     → (st : List ℕ) (l : List Piece) → Held st l out p → Held st (push_str l a (as_str q)) out' r
 
 -- a hole's piece as it stands, or its text under one annotation
-abbrev pub shown_piece : Bool → ℕ → Piece → Piece
-shown_piece false a q = q
-shown_piece true a q = str a (as_str q)
+abbrev pub shown_piece : Shown → ℕ → Piece → Piece
+shown_piece AsItStands a q = q
+shown_piece AsText a q = str a (as_str q)
 
 -- the same of a hole
-abbrev pub shown_hole : Bool → ℕ → Hole → Hole
-shown_hole texts a h = hole h.place (shown_piece texts a h.piece)
+abbrev pub shown_hole : Shown → ℕ → Hole → Hole
+shown_hole shown a h = hole h.place (shown_piece shown a h.piece)
 
 -- a hole, of its field's letter and content
-abbrev pub PushesPiece : List ℕ → Line → ℕ → ℕ → List ℕ → Bool → List ℕ → Line → Type 0
-PushesPiece out p a letter t texts out' r =
+abbrev pub PushesPiece : List ℕ → Line → ℕ → ℕ → List ℕ → Shown → List ℕ → Line → Type 0
+PushesPiece out p a letter t shown out' r =
     (q : Piece) → read_piece (whole letter t) ≡ some q → readable_piece q ≡ true
-    → (st : List ℕ) (l : List Piece) → Held st l out p → Held st (push l (shown_piece texts a q)) out' r
+    → (st : List ℕ) (l : List Piece) → Held st l out p → Held st (push l (shown_piece shown a q)) out' r
 
 -- the holes from a place on, each within n segments, whose texts and names passed refusal 3
 pub record Fits (n : ℕ) (s : List ℕ) (at : ℕ) (hs : List Hole) : Type 0 where
@@ -51,10 +53,10 @@ pub record Fits (n : ℕ) (s : List ℕ) (at : ℕ) (hs : List Hole) : Type 0 wh
   pub readable : all readable_hole hs ≡ true
 
 -- the walk over all holes
-abbrev pub DrawsHoles : List ℕ → Line → ℕ → List ℕ → ℕ → ℕ → ℕ → Bool → List ℕ → Line → Type 0
-DrawsHoles out p a s segs holes to texts out' r =
+abbrev pub DrawsHoles : List ℕ → Line → ℕ → List ℕ → ℕ → ℕ → ℕ → Shown → List ℕ → Line → Type 0
+DrawsHoles out p a s segs holes to shown out' r =
     (hs : List Hole) → Fits (length (part segs holes s)) s holes hs → (st : List ℕ) (l : List Piece) → Held st l out p
-    → Held st (into_tagged_from a (stretch_to (part segs holes s) to) l 0 (map (shown_hole texts a) hs)) out' r
+    → Held st (into_tagged_from a (stretch_to (part segs holes s) to) l 0 (map (shown_hole shown a) hs)) out' r
 
 -- `push_holed`
 abbrev pub PushesHoled : List ℕ → Line → ℕ → List ℕ → ℕ → ℕ → ℕ → List ℕ → Line → Type 0

@@ -1,18 +1,11 @@
 // The columns of a hole, of pieces, of a border with holes, and of a line that is filled.
-ghost use Rattle.std.specs.Prelude.{◌≡◌, ◌+◌, ◌-◌, ◌*◌, ◌^◌, ◌≤◌, ◌<◌, length};
+ghost use Rattle.std.specs.Prelude.{◌≡◌, ◌+◌, ◌-◌, ◌*◌, ◌^◌, ◌≤◌, ◌<◌, length, IfSome};
 ghost use Rattle.holes.specs.Cols.{CountsPiece, CountsPieces, EndsAt, CountsText, CountsBorder, CountsLine};
 
 use fields::field::{Field, field_at};
 use fields::width::text_width;
 use places::border::border_parts;
 use places::holes::Holes;
-
-// The columns of a line's pieces, and whether it has any.
-#[derive(Clone, Copy)]
-pub struct LineCols {
-    pub cols: usize,
-    pub pieces: bool,
-}
 
 // The columns of a text or a name: a name has none.
 pub fn piece_cols(letter: u8, content: &[u8]) -> usize
@@ -63,44 +56,36 @@ fn walk_end(content: &[u8], holes: usize, end: usize) -> usize
     pos.max(end)
 }
 
-// The columns of a text line padded to a width, and whether it has a piece.
-fn text_cols(content: &[u8], to: usize) -> LineCols
+// The columns of a text line padded to a width, if it has a piece.
+fn text_cols(content: &[u8], to: usize) -> Option<usize>
     requires { (length content.now < 65536) × (to < 65536) }
-    ensures cols_bound { result.cols < 2 ^ 18 }
+    ensures cols_bound { IfSome result (λ cols. cols < 2 ^ 18) }
     ensures counts_text { CountsText content.now to result }
 {
     let cols = pieces_width(content).max(to);
-    LineCols {
-        cols,
-        pieces: 0 < content.len() + to,
-    }
+    (0 < content.len() + to).then_some(cols)
 }
 
-// The columns of a border stretched to a width, and whether it has a piece.
-fn border_cols(content: &[u8], segs: usize, holes: usize, to: usize) -> LineCols
+// The columns of a border stretched to a width, if it has a piece.
+fn border_cols(content: &[u8], segs: usize, holes: usize, to: usize) -> Option<usize>
     requires { (segs ≤ holes) × (holes ≤ length content.now) × (length content.now < 65536) × (to < 65536) }
-    ensures cols_bound { result.cols < 2 ^ 18 }
+    ensures cols_bound { IfSome result (λ cols. cols < 2 ^ 18) }
     ensures counts_border { CountsBorder content.now segs holes to result }
 {
     let end = to.max(holes - segs);
     let cols = walk_end(content, holes, end);
-    LineCols {
-        cols,
-        pieces: 0 < content.len() - holes + end,
-    }
+    (0 < content.len() - holes + end).then_some(cols)
 }
 
-// The columns of a line that is filled to a width, and whether it has a piece.
-pub fn line_cols(letter: u8, content: &[u8], to: usize) -> LineCols
+// The columns of a line that is filled to a width, if it has a piece.
+pub fn line_cols(letter: u8, content: &[u8], to: usize) -> Option<usize>
     requires { (length content.now < 65536) × (to < 65536) }
-    ensures cols_bound { result.cols < 2 ^ 18 }
+    ensures cols_bound { IfSome result (λ cols. cols < 2 ^ 18) }
     ensures counts_line { CountsLine letter content.now to result }
 {
     if letter == b'L' {
         return text_cols(content, to);
     }
-    let p = border_parts(letter, content);
-    let segs = p.segs;
-    let holes = p.holes;
-    border_cols(content, segs, holes, to)
+    let parts = border_parts(letter, content);
+    border_cols(content, parts.segs, parts.holes, to)
 }

@@ -9,6 +9,14 @@ use fields::width::text_width;
 use places::holes::{Hole, Holes};
 use tagged_line::line::Line;
 
+// How a hole is drawn: its text under the border's annotation, as `to_string` does, or its text or name as it stands, as
+// `into_tagged_line` does.
+#[derive(Clone, Copy, Debug, PartialEq, Eq)]
+enum Shown {
+    AsText,
+    AsItStands,
+}
+
 // The segments of a border from one column up to another, Horiz past its own.
 fn push_segments(
     out: &mut [u8],
@@ -45,17 +53,17 @@ fn push_text(out: &mut [u8], line: Line, annotation: u8, letter: u8, content: &[
     }
 }
 
-// A hole: its text under one annotation, or its text or name as it stands.
-fn push_piece(out: &mut [u8], line: Line, annotation: u8, hole: Hole, texts: bool) -> Line
+// A hole, shown one way or the other.
+fn push_piece(out: &mut [u8], line: Line, annotation: u8, hole: Hole, shown: Shown) -> Line
     requires short { length hole.field.now < 65536 }
     requires within { Within line (13 + 3 * length hole.content.now) }
     ensures line_grown { LineGrown line result (9 + 3 * length hole.entry.content.now) }
-    ensures pushes_piece { PushesPiece out.old line annotation hole.entry.letter hole.entry.content.now texts out.new result }
+    ensures pushes_piece { PushesPiece out.old line annotation hole.entry.letter hole.entry.content.now shown out.new result }
 {
-    if texts {
-        return push_text(out, line, annotation, hole.letter, hole.content);
+    match shown {
+        Shown::AsText => push_text(out, line, annotation, hole.letter, hole.content),
+        Shown::AsItStands => line.add_pieces(out, hole.field, true, true),
     }
-    line.add_pieces(out, hole.field, true, true)
 }
 
 // The walk of `to_string` and `into_tagged_line`: a border's segments under an annotation, and its holes.
@@ -67,12 +75,12 @@ fn push_holes(
     segs: usize,
     holes: usize,
     to: usize,
-    texts: bool,
+    shown: Shown,
 ) -> Line
     requires segs_le_holes { (segs ≤ holes) × (holes ≤ length content.now) × (length content.now < 65536) × (to < 65536) }
     requires within { Within line (drawn_most (length content.now) to) }
     ensures line_grown { LineGrown line result (drawn_most (length content.now) to) }
-    ensures draws_holes { DrawsHoles out.old line annotation content.now segs holes to texts out.new result }
+    ensures draws_holes { DrawsHoles out.old line annotation content.now segs holes to shown out.new result }
 {
     let own = &content[segs..holes];
     let end = to.max(own.len());
@@ -84,7 +92,7 @@ fn push_holes(
         };
         let begin = pos.max(usize::from(hole.place).min(end));
         drawn = push_segments(out, drawn, annotation, own, pos, begin);
-        drawn = push_piece(out, drawn, annotation, hole, texts);
+        drawn = push_piece(out, drawn, annotation, hole, shown);
         pos = begin + piece_cols(hole.letter, hole.content);
     }
     push_segments(out, drawn, annotation, own, pos, end)
@@ -105,7 +113,16 @@ pub fn push_holed(
     ensures line_grown { LineGrown line result (drawn_most (length content.now) to) }
     ensures pushes_holed { PushesHoled out.old line annotation content.now segs holes to out.new result }
 {
-    push_holes(out, line, annotation, content, segs, holes, to, true)
+    push_holes(
+        out,
+        line,
+        annotation,
+        content,
+        segs,
+        holes,
+        to,
+        Shown::AsText,
+    )
 }
 
 // `into_tagged_line` of a border stretched to a width, pushed piece by piece: segments under the border's own annotation.
@@ -123,5 +140,14 @@ pub fn push_tagged(
     ensures pushes_tagged { PushesTagged out.old line content.now segs holes to out.new result }
 {
     let annotation = content.first().copied().unwrap_or_default();
-    push_holes(out, line, annotation, content, segs, holes, to, false)
+    push_holes(
+        out,
+        line,
+        annotation,
+        content,
+        segs,
+        holes,
+        to,
+        Shown::AsItStands,
+    )
 }

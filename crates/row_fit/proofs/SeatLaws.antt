@@ -28,7 +28,9 @@ use Rattle.rows.specs.Columns.{Slot, Column, column_of, overlaps, too_wide, next
 use Rattle.fields.specs.Places.{LinesAt}
 use Rattle.places.specs.Border.{PartsIn, FindsParts}
 use Rattle.places.specs.declared.border.Parts.{Parts}
-use Rattle.holes.specs.declared.cols.LineCols.{LineCols}
+use Rattle.std.proofs.Common.{Option as Maybe, Some, None, unwrap_or}
+use Rattle.std.specs.Option.{is_some}
+use Rattle.holes.proofs.LineLaws.{has_pieces, own_cols}
 use Rattle.holes.specs.Cols.{CountsLine}
 use Rattle.holes.specs.Overlap.{FindsOverlap}
 use Rattle.bodies.specs.Body.{BottomAt, FindsBody}
@@ -327,15 +329,15 @@ wide_test s end stop total w (some segs) b = rw (lt-leb stop end b.room)
 -- ---- the line that comes where the border is
 
 -- None is left: spaces.
-pub through_none : (s : List ℕ) (at end to w height p : ℕ) → SkipsTo s at end height p → end ≤ p → CountsThrough s at end to w height (record { cols = w; pieces = true })
+pub through_none : (s : List ℕ) (at end to w height p : ℕ) → SkipsTo s at end height p → end ≤ p → CountsThrough s at end to w height (Some w)
 unfolding width
 through_none s at end to w height p f h o c et ew l r =
     let e : drop height c.lines ≡ [] = no_lines_lem s p end (drop height c.lines) h (f c.lines l) in
     let n : w ≡ text_width (replicate c.width 0x20) + 0 = sym ew ∙ omega (arith, spaces_width c.width) in
-    rw e (record { cols = n; pieces = refl })
+    rw e (ap Some n)
 
 -- A line that is there.
-pub through_line : (s : List ℕ) (at end to w height p letter start next : ℕ) (r : LineCols) → SkipsTo s at end height p → p < end
+pub through_line : (s : List ℕ) (at end to w height p letter start next : ℕ) (r : Maybe ℕ) → SkipsTo s at end height p → p < end
     → field_at p (drop p s) ≡ At letter start next → CountsLine letter (part start next s) to r → CountsThrough s at end to w height r
 unfolding readable_lines all
 through_line s at end to w height p l st nx r f h e k o c et ew ls ok =
@@ -344,11 +346,11 @@ through_line s at end to w height p l st nx r f h e k o c et ew ls ok =
     let g = and_left (readable_line q.one) (readable_lines q.more) (rw q.are at d) in
     rw (q.are, et) (k q.one o q.reads g)
 
-pub through_broken : (s : List ℕ) (at end to w height p : ℕ) (r : LineCols) → SkipsTo s at end height p → p < end → field_at p (drop p s) ≡ Broken
+pub through_broken : (s : List ℕ) (at end to w height p : ℕ) (r : Maybe ℕ) → SkipsTo s at end height p → p < end → field_at p (drop p s) ≡ Broken
     → CountsThrough s at end to w height r
 through_broken s at end to w height p r f h e o c et ew ls ok = absurd (line_broken s p end _ h (f c.lines ls) e)
 
-pub through_ended : (s : List ℕ) (at end to w height p : ℕ) (r : LineCols) → SkipsTo s at end height p → p < end → field_at p (drop p s) ≡ End
+pub through_ended : (s : List ℕ) (at end to w height p : ℕ) (r : Maybe ℕ) → SkipsTo s at end height p → p < end → field_at p (drop p s) ≡ End
     → CountsThrough s at end to w height r
 through_ended s at end to w height p r f h e o c et ew ls ok = absurd (line_end_lem s p end _ h (f c.lines ls) e)
 
@@ -409,9 +411,9 @@ fit_ends s at end to w span collapse total height b misfit join q h o x et ew es
     }
 
 -- A seat that does.
-pub fit_hangs : (s : List ℕ) (at end to w span : ℕ) (collapse : Bool) (total height : ℕ) (b : Body) (misfit : Bool) (join : ℕ) (t : LineCols)
+pub fit_hangs : (s : List ℕ) (at end to w span : ℕ) (collapse : Bool) (total height : ℕ) (b : Body) (misfit : Bool) (join : ℕ) (t : Maybe ℕ)
     → Lined s at end to w collapse total height b misfit join → 1 < span → CountsThrough s b.at b.end to w height t
-    → FindsFit s at end to w span collapse total height (record { misfit = misfit; join = join; hole = t.pieces; cols = t.cols })
+    → FindsFit s at end to w span collapse total height (record { misfit = misfit; join = join; hole = is_some t; cols = unwrap_or t 0 })
 fit_hangs s at end to w span collapse total height b misfit join t q h k o x et ew es l ok =
     let c = column_of collapse x in
     let i = q.body x l in
@@ -420,6 +422,6 @@ fit_hangs s at end to w span collapse total height b misfit join t q h k o x et 
     record {
       misfit_is = misfit_of s at end to w collapse total height b misfit join q x et ew l;
       join_is = q.joins c.bottom i.bottom_at;
-      hole_is = rw z n.pieces;
-      cols_is = rw z n.cols;
+      hole_is = rw z (has_pieces t _ n);
+      cols_is = rw z (own_cols t _ n);
     }

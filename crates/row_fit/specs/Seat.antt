@@ -1,6 +1,6 @@
 -- What one seat of a row has to do with refusal 10.
 -- Assumes nothing: these are definitions.
-use Rattle.std.specs.Prelude.{◌≡◌, Bool, true, false, ◌||◌, List, [], ◌∷◌, ℕ, zero, suc, ◌^◌, ◌<◌, leb, ltb, length, drop, if◌then◌else◌}
+use Rattle.std.specs.Prelude.{Option as Maybe, ◌≡◌, Bool, true, false, ◌||◌, List, [], ◌∷◌, ℕ, zero, suc, ◌^◌, ◌<◌, leb, ltb, length, drop, if◌then◌else◌}
 use Rattle.std.proofs.Math.Option.{Option, some, get_or}
 use Rattle.fields.specs.Field.{whole}
 use Rattle.fields.specs.Sheet.{Piece}
@@ -12,7 +12,6 @@ use Rattle.fields.specs.Spans.{RenderLine, text, border, read_line, readable_lin
 use Rattle.rows.specs.Columns.{Slot, Column, column_of, bottom_of, overlaps, column_misfit, through_of}
 use Rattle.fields.specs.Places.{LinesAt}
 use Rattle.bodies.specs.Body.{BottomAt}
-use Rattle.holes.specs.declared.cols.LineCols.{LineCols}
 use Rattle.holes.specs.Cols.{Counts}
 use Rattle.row_fit.specs.declared.seat.SeatFit.{SeatFit}
 
@@ -55,7 +54,7 @@ abbrev pub pieces_below : RenderOptions → ℕ → Column → List Piece
 pieces_below o n c = if ltb 1 c.span then through_of o c (drop n c.lines) else []
 
 -- `through_cols`
-abbrev pub CountsThrough : List ℕ → ℕ → ℕ → ℕ → ℕ → ℕ → LineCols → Type 0
+abbrev pub CountsThrough : List ℕ → ℕ → ℕ → ℕ → ℕ → ℕ → Maybe ℕ → Type 0
 CountsThrough s at end to width height r =
     (o : RenderOptions) (c : Column) → c.to ≡ to → c.width ≡ width → LinesAt s at end c.lines → readable_lines c.lines ≡ true
     → Counts r (through_of o c (drop height c.lines))

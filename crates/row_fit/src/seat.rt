@@ -1,5 +1,5 @@
 // What one seat has to do with refusal 10.
-ghost use Rattle.std.specs.Prelude.{◌≡◌, ◌&&◌, ◌||◌, suc, ◌≤◌, ◌<◌, ◌^◌, leb, ltb, length, if◌then◌else◌};
+ghost use Rattle.std.specs.Prelude.{◌≡◌, ◌&&◌, ◌||◌, suc, ◌≤◌, ◌<◌, ◌^◌, leb, ltb, length, if◌then◌else◌, IfSome};
 ghost use Rattle.borders.specs.BorderSegHoriz.{joins_above};
 ghost use Rattle.row_fit.specs.Seat.{last_join, FindsJoin, LineCrosses, LinesCross, CountsThrough, FitIn, FindsFit};
 
@@ -7,7 +7,7 @@ use bodies::body::body_of;
 use bodies::walk::skip_lines;
 use borders::border::Side;
 use fields::field::{Field, field_at};
-use holes::cols::{LineCols, line_cols};
+use holes::cols::line_cols;
 use holes::overlap::overlaps;
 use places::border::border_parts;
 
@@ -115,18 +115,22 @@ fn bottom_join(s: &[u8], end: usize, stop: usize) -> usize
     }
 }
 
-// The columns of the line that comes where the border is, and whether it makes a hole.
-fn through_cols(s: &[u8], at: usize, end: usize, to: usize, width: usize, height: usize) -> LineCols
+// The columns of the line that comes where the border is, if it makes a hole.
+fn through_cols(
+    s: &[u8],
+    at: usize,
+    end: usize,
+    to: usize,
+    width: usize,
+    height: usize,
+) -> Option<usize>
     requires { (to < 65536) × (width < 2 ^ 20) }
-    ensures cols_bound { result.cols < 2 ^ 20 }
+    ensures cols_bound { IfSome result (λ cols. cols < 2 ^ 20) }
     ensures counts_through { CountsThrough s.now at end to width height result }
 {
     let p = skip_lines(s, at, end, height);
     if end <= p {
-        return LineCols {
-            cols: width,
-            pieces: true,
-        };
+        return Some(width);
     }
     let f = field_at(s, p);
     match f {
@@ -135,14 +139,8 @@ fn through_cols(s: &[u8], at: usize, end: usize, to: usize, width: usize, height
             start,
             next,
         } => line_cols(letter, &s[start..next], to),
-        Field::Broken => LineCols {
-            cols: 0,
-            pieces: false,
-        },
-        Field::End => LineCols {
-            cols: 0,
-            pieces: false,
-        },
+        Field::Broken => None,
+        Field::End => None,
     }
 }
 
@@ -206,7 +204,7 @@ pub fn seat_fit(
     SeatFit {
         misfit,
         join,
-        hole: t.pieces,
-        cols: t.cols,
+        hole: t.is_some(),
+        cols: t.unwrap_or(0),
     }
 }

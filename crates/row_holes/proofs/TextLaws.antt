@@ -38,7 +38,9 @@ use Rattle.slots.specs.declared.seat.Next.TheVariants.{Is, NoMore}
 use Rattle.slots.specs.Seats.{source, SlotsIn, SlotsLeft, FoundIn, FindsNext}
 use Rattle.holes.specs.Cols.{CountsLine}
 use Rattle.holes.specs.Drawing.{PushesTagged}
-use Rattle.holes.specs.declared.cols.LineCols.{LineCols}
+use Rattle.std.proofs.Common.{Option as Maybe}
+use Rattle.std.specs.Option.{is_some}
+use Rattle.holes.proofs.LineLaws.{has_pieces}
 use Rattle.holes.proofs.Segments.{string_nil}
 use Rattle.holes.proofs.WidthLaws.{formed, string_formed, up_to_wide}
 use Rattle.tagged_line.specs.Held.{Held, Within, LineGrown, Draws, PushesSpaces, new_line}
@@ -244,19 +246,19 @@ no_pieces : (ps : List Piece) → leb 1 (length ps) ≡ false → ps ≡ []
 no_pieces [] e = refl
 no_pieces (q ∷ ps) e = absurd (let h = leb-false 1 (length (q ∷ ps)) e in omega arith)
 
-pub there_none : (out : List ℕ) (p : Line) (a : ℕ) (segs : List ℕ) (letter : ℕ) (content : List ℕ) (to x : ℕ) (c : LineCols) → CountsLine letter content to c → c.pieces ≡ false
+pub there_none : (out : List ℕ) (p : Line) (a : ℕ) (segs : List ℕ) (letter : ℕ) (content : List ℕ) (to x : ℕ) (c : Maybe ℕ) → CountsLine letter content to c → is_some c ≡ false
     → PushesThere out p a segs letter content to x out p
 unfolding punch
 there_none out p a segs letter content to x c counts e o ea g read ok x₀ near =
     on_none out p a segs (punch x₀ (into_tagged_line (filled o to g)))
-    (ap (punch x₀) (no_pieces (into_tagged_line (filled o to g)) (sym (counts g o read ok).pieces ∙ e)))
+    (ap (punch x₀) (no_pieces (into_tagged_line (filled o to g)) (sym (has_pieces c _ (counts g o read ok)) ∙ e)))
 
-pub there_on : (out mid out' : List ℕ) (p m r : Line) (a : ℕ) (segs : List ℕ) (letter : ℕ) (content : List ℕ) (to x : ℕ) (c : LineCols) → length segs ≤ 65536
-    → CountsLine letter content to c → c.pieces ≡ true → PushesSegments out p a segs x mid m → PushesLine mid m a letter content to out' r
+pub there_on : (out mid out' : List ℕ) (p m r : Line) (a : ℕ) (segs : List ℕ) (letter : ℕ) (content : List ℕ) (to x : ℕ) (c : Maybe ℕ) → length segs ≤ 65536
+    → CountsLine letter content to c → is_some c ≡ true → PushesSegments out p a segs x mid m → PushesLine mid m a letter content to out' r
     → PushesThere out p a segs letter content to x out' r
 there_on out mid out' p m r a segs letter content to x c small counts e g k o ea line read ok x₀ near =
     on_pieces out mid out' p m r a segs x x₀ (into_tagged_line (filled o to line)) small near
-    (leb-true 1 (length (into_tagged_line (filled o to line))) (sym (counts line o read ok).pieces ∙ e)) (line_formed o to line ok) g (k o ea line read ok)
+    (leb-true 1 (length (into_tagged_line (filled o to line))) (sym (has_pieces c _ (counts line o read ok)) ∙ e)) (line_formed o to line ok) g (k o ea line read ok)
 
 -- ---- `push_seat`
 

@@ -84,8 +84,7 @@ fn push_there(
     ensures line_grown { LineGrown line result hole_most }
     ensures pushes_there { PushesThere out.old line annotation segs.now letter content.now to x out.new result }
 {
-    let c = line_cols(letter, content, to);
-    if !c.pieces {
+    if line_cols(letter, content, to).is_none() {
         return line;
     }
     let begun = push_segments(out, line, annotation, segs, x);

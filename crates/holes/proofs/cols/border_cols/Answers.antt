@@ -1,10 +1,8 @@
 -- `cols::border_cols` meets its contract: the walk over the stretched border ends where its columns do.
 -- Assumes nothing.
 use Rattle.holes.proofs.LineLaws.{border_counts}
-use mathlib.Core.Path.{refl}
-use borrow.Author.Rules.{rules}
 use Rattle.holes.proofs.cols.border_cols.Goals as goal
 
-pub returns : goal.returns
-returns c =
-    record { cols_bound = search rules; counts_border = border_counts c.args.content.now _ _ _ _ _ c.requires.1 c.max-end.ensures c.walk_end-cols.ensures.ends_at refl }
+pub returns-clause-counts_border : goal.returns-clause-counts_border
+returns-clause-counts_border c =
+    border_counts c.args.content.now _ _ _ _ _ _ c.requires.1 c.max-end.ensures c.walk_end-cols.ensures.ends_at c.then_some.ensures

@@ -3,8 +3,9 @@
 use Rattle.holes.proofs.Segments.{piece_text, piece_stands}
 use Rattle.holes.proofs.draw.push_piece.Goals as goal
 
-pub returns-then-texts-clause-pushes_piece : goal.returns-then-texts-clause-pushes_piece
-returns-then-texts-clause-pushes_piece c = piece_text _ _ _ _ _ _ _ _ c.if-texts.true c.push_text.ensures.pushes_text
+pub returns-in-AsText-clause-pushes_piece : goal.returns-in-AsText-clause-pushes_piece
+returns-in-AsText-clause-pushes_piece c = piece_text _ _ _ _ _ _ _ _ c.in-AsText.is c.push_text.ensures.pushes_text
 
-pub returns-clause-pushes_piece : goal.returns-clause-pushes_piece
-returns-clause-pushes_piece c = piece_stands _ _ _ _ _ _ _ _ _ c.if-texts.false c.args.hole.one_field c.add_pieces.ensures.adds_pieces
+pub returns-in-AsItStands-clause-pushes_piece : goal.returns-in-AsItStands-clause-pushes_piece
+returns-in-AsItStands-clause-pushes_piece c =
+    piece_stands _ _ _ _ _ _ _ _ _ c.in-AsItStands.is c.args.hole.one_field c.add_pieces.ensures.adds_pieces

@@ -29,7 +29,7 @@ line_cols-requires c =
 
 pub returns-in-At : goal.returns-in-At
 returns-in-At c =
-    record { cols_bound = omega (arith, c.line_cols.ensures.cols_bound); counts_through = through_line _ c.args.at c.args.end c.args.to c.args.width c.args.height c.skip_lines-p.result _ _ _ c.line_cols.result c.skip_lines-p.ensures.skips_to c.if-end-p.false (sym c.field_at-f.ensures.value ∙ c.in-At.is) c.line_cols.ensures.counts_line }
+    record { cols_bound = search rules; counts_through = through_line _ c.args.at c.args.end c.args.to c.args.width c.args.height c.skip_lines-p.result _ _ _ c.line_cols.result c.skip_lines-p.ensures.skips_to c.if-end-p.false (sym c.field_at-f.ensures.value ∙ c.in-At.is) c.line_cols.ensures.counts_line }
 
 pub returns-in-Broken : goal.returns-in-Broken
 returns-in-Broken c =
