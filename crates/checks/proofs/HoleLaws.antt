@@ -4,12 +4,12 @@ use mathlib.Core.Path.{◌≡◌, refl, sym, ap, ◌∙◌}
 use mathlib.Core.Bool.{Bool, true, false}
 use mathlib.Core.Option.{Option, none, some, map}
 use mathlib.Core.List.{List, [], ◌∷◌}
-use Prim.Native.Nat.{ℕ, suc, ◌+◌, ◌-◌, ◌*◌, ◌≤◌, ◌<◌}
+use Prim.Native.Nat.{ℕ, ◌+◌, ◌-◌, ◌*◌, ◌≤◌, ◌<◌}
 use native.Mathlib.Omega.{arith}
 use lib.Dec.{leb, eqb}
 use lib.ListN.{length, take, drop, get_or, length-drop, drop_of_length-le}
 use lib.Seq.{length-take-le}
-use borrow.Author.Tests.{le-leb, lt-leb, ne_eqb}
+use borrow.Author.Tests.{le-leb, ne_eqb}
 use Rattle.std.specs.Prelude.{if◌then◌else◌}
 use Rattle.characters.proofs.Tests.{by_if}
 use Rattle.fields.specs.Field.{Raw, whole, all}
@@ -26,13 +26,6 @@ use Rattle.places.proofs.HoleLaws.{holes_nil}
 use Rattle.checks.specs.Walk.{past_refusal}
 
 -- ---- one hole
-
--- past the last segment, and within
-pub past_off : (n e : ℕ) → n < e → 1 ≡ past_refusal n e
-past_off n e h = rw (lt-leb e n h)
-
-pub past_on : (n e : ℕ) → e ≤ n → 0 ≡ past_refusal n e
-past_on n e h = rw (le-leb e n h)
 
 -- a piece that passes is measured, and one that does not is refused as it is
 measured : (n p : ℕ) (q : Piece) (b : Bool) → readable_piece q ≡ b → judged_hole n (hole p q) ≡ (if b then past_refusal n (p + piece_width q) else 3)
@@ -184,21 +177,18 @@ bare_holed (a ∷ b ∷ c ∷ s) n h e k = bare a b c n s (sym e) (leb n (length
 
 -- a byte that is no segment
 pub crooked_holed : (s : List ℕ) (n : ℕ) → n ≡ get_or s 1 0 * 256 + get_or s 2 0 → 3 + n < length s
-    → all is_segment (take (3 + n - 3) (drop 3 s)) ≡ false → 1 ≡ line_refusal (whole 0x47 s)
+    → all is_segment (take n (take (length s - 3) (drop 3 s))) ≡ false → 1 ≡ line_refusal (whole 0x47 s)
 crooked_holed [] n e k t = absurd (omega arith)
 crooked_holed (a ∷ []) n e k t = absurd (omega arith)
 crooked_holed (a ∷ b ∷ []) n e k t = absurd (omega arith)
-crooked_holed (a ∷ b ∷ c ∷ s) n e k t =
-    let d : 3 + n - 3 ≡ n = omega arith in
-    crooked a b c n s (sym e) (omega arith) (rw d at t)
+crooked_holed (a ∷ b ∷ c ∷ s) n e k t = crooked a b c n s (sym e) (omega arith) (rw (rest (a ∷ b ∷ c ∷ s) 3) at t)
 
 -- segments, and holes behind them
 pub right_holed : (s : List ℕ) (n : ℕ) → n ≡ get_or s 1 0 * 256 + get_or s 2 0 → 3 + n < length s
-    → all is_segment (take (3 + n - 3) (drop 3 s)) ≡ true → holes_refusal n (raw_holes (drop (3 + n) s)) ≡ line_refusal (whole 0x47 s)
+    → all is_segment (take n (take (length s - 3) (drop 3 s))) ≡ true
+    → holes_refusal n (raw_holes (drop n (take (length s - 3) (drop 3 s)))) ≡ line_refusal (whole 0x47 s)
 right_holed [] n e k t = absurd (omega arith)
 right_holed (a ∷ []) n e k t = absurd (omega arith)
 right_holed (a ∷ b ∷ []) n e k t = absurd (omega arith)
 right_holed (a ∷ b ∷ c ∷ s) n e k t =
-    let d : 3 + n - 3 ≡ n = omega arith in
-    let three : 3 + n ≡ suc (suc (suc n)) = omega arith in
-    rw three (right a b c n s (sym e) (omega arith) (rw d at t))
+    rw (rest (a ∷ b ∷ c ∷ s) 3) (right a b c n s (sym e) (omega arith) (rw (rest (a ∷ b ∷ c ∷ s) 3) at t))

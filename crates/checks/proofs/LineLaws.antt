@@ -6,9 +6,9 @@ use mathlib.Core.Option.{Option, none, some, map}
 use mathlib.Core.List.{List, [], ◌∷◌}
 use Prim.Native.Nat.{ℕ, ◌-◌, ◌+◌, ◌*◌, ◌≤◌, ◌<◌}
 use native.Mathlib.Omega.{arith}
-use lib.Dec.{leb, eqb}
+use lib.Dec.{eqb}
 use lib.ListN.{length, take, drop, get_or}
-use borrow.Author.Tests.{le-leb, lt-leb, ne_eqb}
+use borrow.Author.Tests.{ne_eqb}
 use Rattle.std.specs.Prelude.{if◌then◌else◌}
 use Rattle.fields.specs.Field.{whole, broken, raws, read_all}
 use Rattle.fields.specs.First.{first_of, first_over, refusal_of, unless}
@@ -18,11 +18,9 @@ use Rattle.fields.proofs.First.{first_zero, one_first}
 use Rattle.fields.proofs.Sheets.{pieces_all, mapped, two_after}
 use Rattle.fields.proofs.Texts.{rest}
 use Rattle.fields.specs.Spans.{RenderLine, text, hanging, cell, read_line, is_span, read_hanging, read_cell, read_plain_cell, readable_line, readable_lines}
-use Rattle.fields.specs.SpanRefusals.{line_refusal, lines_refusal, judged_hanging, hanging_refusal, judged_cell, cell_refusal, plain_cell_refusal}
+use Rattle.fields.specs.SpanRefusals.{line_refusal, judged_hanging, hanging_refusal, judged_cell, cell_refusal, plain_cell_refusal}
 use Rattle.rows.proofs.Refusing.{lines_all}
-use Rattle.checks.specs.Walk.{body_refusal, refusal_in}
-use Rattle.checks.specs.declared.walk.Kind.{Kind}
-use Rattle.checks.specs.declared.walk.Kind.TheVariants.{Cells, Plain, Hanging as Hangs}
+use Rattle.checks.specs.Walk.{body_refusal}
 
 -- ---- one line
 
@@ -41,28 +39,11 @@ unfolding line_refusal read_line
 no_line l s h k j = rw (ne_eqb l 0x4C h, ne_eqb l 0x42 k, ne_eqb l 0x47 j)
 
 -- a rest that is no field
-pub broken_line : line_refusal broken ≡ 1
+pub line_crooked : line_refusal broken ≡ 1
 unfolding line_refusal read_line
-broken_line = refl
+line_crooked = refl
 
 -- ---- a width and lines
-
--- 1 to 16
-pub span_none : (n : ℕ) → n < 1 → false ≡ is_span n
-span_none n h = rw (lt-leb 1 n h)
-
-pub span_some : (n : ℕ) → 1 ≤ n → leb n 16 ≡ is_span n
-span_some n h = rw (le-leb 1 n h)
-
--- a width that is right leaves the refusal of the lines
-pub wide_body : (w : ℕ) (ls : List ℕ) → (w ≡ 0 → ⊥) → lines_refusal (raws ls) ≡ body_refusal w ls
-unfolding body_refusal
-wide_body w ls h = rw (ne_eqb w 0 h) (sym (first_zero (lines_refusal (raws ls))))
-
--- a width of 0 is refusal 2, after 1
-pub narrow_body : (w : ℕ) (ls : List ℕ) → w ≡ 0 → first_of (lines_refusal (raws ls)) 2 ≡ body_refusal w ls
-unfolding body_refusal
-narrow_body w ls h = rw h
 
 -- what is read with a width w, judged by the width and its lines
 module _ {A : Type 0} (g : A → ℕ) (make : List RenderLine → A) where
@@ -151,11 +132,16 @@ hanging_body l (p ∷ q ∷ []) e h k = absurd (omega arith)
 hanging_body l (p ∷ q ∷ w ∷ []) e h k = absurd (omega arith)
 hanging_body l (p ∷ q ∷ w ∷ n ∷ s) e h k = rw (rest (p ∷ q ∷ w ∷ n ∷ s) 4, e, k) (body judged_hanging (hanging (p * 256 + q) w n) w s (λ _. refl))
 
--- ---- lists
+-- ---- a rest that is no field is refusal 1 in a list of any kind
 
--- a rest that is no field is refusal 1 in a list of any kind
-pub broken_in : (k : Kind) → refusal_in k broken ≡ 1
-unfolding cell_refusal read_cell plain_cell_refusal read_plain_cell hanging_refusal read_hanging
-broken_in Cells = refl
-broken_in Plain = refl
-broken_in Hangs = refl
+pub cell_crooked : cell_refusal broken ≡ 1
+unfolding cell_refusal read_cell
+cell_crooked = refl
+
+pub plain_crooked : plain_cell_refusal broken ≡ 1
+unfolding plain_cell_refusal read_plain_cell
+plain_crooked = refl
+
+pub hanging_crooked : hanging_refusal broken ≡ 1
+unfolding hanging_refusal read_hanging
+hanging_crooked = refl

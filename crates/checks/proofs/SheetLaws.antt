@@ -9,11 +9,11 @@ use native.Mathlib.Omega.{arith}
 use lib.Dec.{leb, eqb}
 use lib.ListN.{length, take, drop, get_or, length-drop}
 use lib.Seq.{length-take-le, drop-drop}
-use borrow.Author.Tests.{leb-true, eqb-true, eqb-false, eq-eqb, ne_eqb}
+use borrow.Author.Tests.{leb-true, leb-false, eqb-true, eqb-false, eq-eqb, ne_eqb}
 use Rattle.std.specs.Prelude.{if◌then◌else◌}
 use Rattle.characters.proofs.Tests.{by_if}
 use Rattle.fields.specs.Field.{Raw, whole, raws_f, raws, read_all, all, part}
-use Rattle.fields.specs.First.{first_of, first_over, unless}
+use Rattle.fields.specs.First.{first_of, first_over, refusal_of, unless}
 use Rattle.fields.proofs.Fields.{raws_cons}
 use Rattle.fields.proofs.Readings.{read_size}
 use Rattle.fields.proofs.Sheets.{Headed, head_left, sized, too_many, not_too_many}
@@ -22,6 +22,8 @@ use Rattle.fields.specs.Spans.{RenderLine, Hanging, Sheet, sheet_of, read_line, 
 use Rattle.fields.specs.Spans.{parts, counted, read_parts, read_headed, read_sheet, read_cell, read_cells, read_plain_cell, read_plain_cells, wide, readable_cell}
 use Rattle.fields.specs.SpanRefusals.{lines_refusal, names_refusal, hanging_refusal, overhang_refusal, sheet_refusal, cell_refusal, plain_cell_refusal, cells_refusal, plain_cells_refusal}
 use Rattle.rows.proofs.Refusing.{sheet_walk, sheet_miscounts, cells_all, plain_cells_all}
+use Rattle.fields.specs.Sheet.{up_to16}
+use Rattle.checks.specs.Walk.{few_refusal}
 use Rattle.checks.specs.Split.{BodyAt, PartsIn, FindsParts, parts_refusal, counted_refusal}
 use Rattle.checks.specs.declared.sheet.Body.{Body}
 use Rattle.checks.specs.declared.sheet.Parts.{Parts}
@@ -218,22 +220,20 @@ module _ (s : List ℕ) (r : Body) (h : 5 ≤ length s) (f : BodyAt (take (lengt
 
 -- ---- lists of cells, at most 16
 
-pub many_cells : (s : List ℕ) → 16 < length (raws s) → 1 ≡ cells_refusal s
+-- fields judged by themselves, as they are judged when they are read
+few_read : {A : Type 0} (judge : Raw → ℕ) (f : Raw → Option A) (g : List A → ℕ) (rs : List Raw) → first_over judge rs ≡ refusal_of g (read_all f rs)
+    → few_refusal judge rs ≡ refusal_of g (up_to16 (read_all f rs))
+unfolding few_refusal
+few_read judge f g rs e = go (leb (length rs) 16) refl
+  where
+    go : (b : Bool) → leb (length rs) 16 ≡ b → (if b then first_over judge rs else 1) ≡ refusal_of g (up_to16 (read_all f rs))
+    go true k = e ∙ not_too_many g (length rs) (read_all f rs) (sized f rs) (leb-true (length rs) 16 k)
+    go false k = too_many g (length rs) (read_all f rs) (sized f rs) (omega (arith, leb-false (length rs) 16 k))
+
+pub few_cells : (s : List ℕ) → few_refusal cell_refusal (raws s) ≡ cells_refusal s
 unfolding cells_refusal read_cells
-many_cells s h = too_many _ (length (raws s)) (read_all read_cell (raws s)) (sized read_cell (raws s)) h
+few_cells s = few_read cell_refusal read_cell (λ cs. if not (all wide cs) then 2 else unless (all readable_cell cs)) (raws s) (cells_all (raws s))
 
-pub few_cells : (s : List ℕ) → length (raws s) ≤ 16 → first_over cell_refusal (raws s) ≡ cells_refusal s
-unfolding cells_refusal read_cells
-few_cells s h =
-    cells_all (raws s)
-    ∙ not_too_many (λ cs. if not (all wide cs) then 2 else unless (all readable_cell cs)) (length (raws s)) (read_all read_cell (raws s)) (sized read_cell (raws s)) h
-
-pub many_plain : (s : List ℕ) → 16 < length (raws s) → 1 ≡ plain_cells_refusal s
+pub few_plain : (s : List ℕ) → few_refusal plain_cell_refusal (raws s) ≡ plain_cells_refusal s
 unfolding plain_cells_refusal read_plain_cells
-many_plain s h = too_many _ (length (raws s)) (read_all read_plain_cell (raws s)) (sized read_plain_cell (raws s)) h
-
-pub few_plain : (s : List ℕ) → length (raws s) ≤ 16 → first_over plain_cell_refusal (raws s) ≡ plain_cells_refusal s
-unfolding plain_cells_refusal read_plain_cells
-few_plain s h =
-    plain_cells_all (raws s)
-    ∙ not_too_many (λ cs. if not (all wide cs) then 2 else unless (all readable_cell cs)) (length (raws s)) (read_all read_plain_cell (raws s)) (sized read_plain_cell (raws s)) h
+few_plain s = few_read plain_cell_refusal read_plain_cell (λ cs. if not (all wide cs) then 2 else unless (all readable_cell cs)) (raws s) (plain_cells_all (raws s))

@@ -1,85 +1,81 @@
 // The holes of a border (G): each has a place and an S or F field, and ends within the segments (refusals 1 and 3).
-ghost use Rattle.std.specs.Prelude.{◌≡◌, ◌<◌, length, drop};
+ghost use Rattle.std.specs.Prelude.{◌≡◌, ◌<◌, length};
 ghost use Rattle.fields.specs.Field.{whole};
+ghost use Rattle.fields.specs.List.{whole_of};
+ghost use Rattle.fields.specs.Refusal.{number_of};
 ghost use Rattle.fields.specs.Spans.{punched, raw_holes};
 ghost use Rattle.fields.specs.SpanRefusals.{hole_refusal, holes_refusal, line_refusal};
 ghost use Rattle.checks.specs.Walk.{past_refusal};
 
-use fields::field::{first_of, wide};
-use fields::judge::{all_segments, piece_refusal};
+use fields::judge::{all_segments, check_piece};
+use fields::raw::Field;
+use fields::refusal::{Refusal, first_of};
 use fields::width::text_width;
 use places::hole::{HoleAt, hole_at};
 
-// Refusal 1 for a hole that ends past the last segment.
-fn past_refusal(segments: usize, end: usize) -> u8
-    ensures { result ≡ past_refusal segments end }
+// A hole that ends past the last segment is a crooked record.
+fn check_end(segments: usize, end: usize) -> Result<(), Refusal>
+    ensures { number_of result ≡ past_refusal segments end }
 {
     if segments < end {
-        return 1;
+        return Err(Refusal::CrookedRecord);
     }
-    0
+    Ok(())
 }
 
 // A hole of a border of so many segments: 1 or 3 of its field, or 1 where that passes and ends past the last segment.
-fn hole_refusal(segments: usize, place: usize, letter: u8, content: &[u8]) -> u8
-    requires { (place < 65536) × (length content.now < 65536) }
-    ensures { result ≡ hole_refusal segments (punched place (whole letter content.now)) }
+fn check_hole(segments: usize, place: usize, field: Field<'_>) -> Result<(), Refusal>
+    requires { place < 65536 }
+    ensures { number_of result ≡ hole_refusal segments (punched place (whole_of field.entry)) }
 {
-    let n = piece_refusal(letter, content);
-    if n != 0 {
-        return n;
+    check_piece(field)?;
+    if field.letter == b'F' {
+        return check_end(segments, place);
     }
-    if letter == 0x46 {
-        return past_refusal(segments, place);
-    }
-    past_refusal(segments, place + text_width(&content[1..]))
+    check_end(segments, place + text_width(&field.content[1..]))
 }
 
-// The refusal that is given first of all holes from a place on; a rest that is no hole is refusal 1.
-fn holes_refusal(content: &[u8], from: usize, segments: usize) -> u8
-    requires { length content.now < 65536 }
-    ensures { result ≡ holes_refusal segments (raw_holes (drop from content.now)) }
+// The refusal that is given first of all holes of a border of so many segments; a rest that is no hole is a crooked record.
+fn check_holes(holes: &[u8], segments: usize) -> Result<(), Refusal>
+    requires { length holes.now < 65536 }
+    ensures { number_of result ≡ holes_refusal segments (raw_holes holes.now) }
 {
-    let mut at = from;
-    let mut worst: u8 = 0;
+    let mut at = 0;
+    let mut worst = Ok(());
     loop {
-        let h = hole_at(content, at);
-        match h {
+        match hole_at(holes, at) {
             HoleAt::At {
                 place,
                 letter,
                 start,
                 next,
             } => {
-                let n = hole_refusal(segments, place, letter, &content[start..next]);
-                worst = first_of(worst, n);
+                let field = Field {
+                    letter,
+                    content: &holes[start..next],
+                };
+                worst = first_of(worst, check_hole(segments, place, field));
                 at = next;
             }
-            HoleAt::Broken => {
-                return 1;
-            }
-            HoleAt::End => {
-                return worst;
-            }
+            HoleAt::Broken => return Err(Refusal::CrookedRecord),
+            HoleAt::End => return worst,
         }
     }
 }
 
 // The content of a G field: an annotation, the number of segments in two bytes, the segments, and at least one hole.
-pub fn holed_refusal(content: &[u8]) -> u8
-    requires { length content.now < 65536 }
-    ensures { result ≡ line_refusal (whole 0x47 content.now) }
+pub fn check_holed(field: Field<'_>) -> Result<(), Refusal>
+    ensures { number_of result ≡ line_refusal (whole 0x47 field.entry.content.now) }
 {
-    if content.len() < 3 {
-        return 1;
+    let [_, high, low, rest @ ..] = field.content else {
+        return Err(Refusal::CrookedRecord);
+    };
+    let count = usize::from(*high) * 256 + usize::from(*low);
+    let Some((segments, holes)) = rest.split_at_checked(count) else {
+        return Err(Refusal::CrookedRecord);
+    };
+    if holes.is_empty() || !all_segments(segments) {
+        return Err(Refusal::CrookedRecord);
     }
-    let segments = wide(content[1]) * 256 + wide(content[2]);
-    let from = 3 + segments;
-    if content.len() <= from {
-        return 1;
-    }
-    if all_segments(&content[3..from]) {
-        return holes_refusal(content, from, segments);
-    }
-    1
+    check_holes(holes, count)
 }

@@ -1,61 +1,38 @@
 // Lines of a sheet, of a cell or of a cell that hangs: L, B and G fields; and the names that wait on a sheet, F (refusals 1 and 3).
-ghost use Rattle.std.specs.Prelude.{◌≡◌, ◌<◌, length};
-ghost use Rattle.fields.specs.Field.{whole, raws};
+ghost use Rattle.std.specs.Prelude.{◌≡◌};
+ghost use Rattle.fields.specs.Field.{raws};
+ghost use Rattle.fields.specs.List.{whole_of};
+ghost use Rattle.fields.specs.Refusal.{number_of};
 ghost use Rattle.fields.specs.SpanRefusals.{line_refusal, lines_refusal, names_refusal};
 
-use crate::holed::holed_refusal;
-use fields::field::{Field, field_at, first_of};
-use fields::judge::border_refusal;
-use fields::walk::{Kind, fields_refusal};
+use crate::holed::check_holed;
+use fields::check::check_fields;
+use fields::judge::{check_border, check_name, check_piece};
+use fields::raw::Field;
+use fields::refusal::Refusal;
 
 // An L field holds pieces; a B field is a border, and a G field one with holes.
-fn line_refusal(letter: u8, content: &[u8]) -> u8
-    requires { length content.now < 65536 }
-    ensures { result ≡ line_refusal (whole letter content.now) }
+fn check_line(field: Field<'_>) -> Result<(), Refusal>
+    ensures { number_of result ≡ line_refusal (whole_of field.entry) }
 {
-    if letter == 0x4C {
-        return fields_refusal(Kind::Pieces, content);
+    match field.letter {
+        b'L' => check_fields(field.content, check_piece),
+        b'B' => check_border(field.content),
+        b'G' => check_holed(field),
+        _ => Err(Refusal::CrookedRecord),
     }
-    if letter == 0x42 {
-        return border_refusal(content);
-    }
-    if letter == 0x47 {
-        return holed_refusal(content);
-    }
-    1
 }
 
-// The refusal that is given first of all lines; a rest that is no field is refusal 1.
-pub fn lines_refusal(s: &[u8]) -> u8
-    ensures { result ≡ lines_refusal (raws s.now) }
+// The refusal that is given first of all lines.
+pub fn check_lines(lines: &[u8]) -> Result<(), Refusal>
+    ensures { number_of result ≡ lines_refusal (raws lines.now) }
 {
-    let mut rest = s;
-    let mut worst: u8 = 0;
-    loop {
-        let f = field_at(rest, 0);
-        match f {
-            Field::At {
-                letter,
-                start,
-                next,
-            } => {
-                let n = line_refusal(letter, &rest[start..next]);
-                worst = first_of(worst, n);
-                rest = &rest[next..];
-            }
-            Field::Broken => {
-                return 1;
-            }
-            Field::End => {
-                return worst;
-            }
-        }
-    }
+    check_fields(lines, check_line)
 }
 
 // The refusal that is given first of all names that wait.
-pub fn names_refusal(s: &[u8]) -> u8
-    ensures { result ≡ names_refusal (raws s.now) }
+pub fn check_names(names: &[u8]) -> Result<(), Refusal>
+    ensures { number_of result ≡ names_refusal (raws names.now) }
 {
-    fields_refusal(Kind::Names, s)
+    check_fields(names, check_name)
 }

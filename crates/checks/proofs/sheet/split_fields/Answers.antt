@@ -1,46 +1,40 @@
-use mathlib.Core.Path.{◌≡◌, sym, ◌∙◌}
-use native.Mathlib.Omega.{arith}
-use lib.ListN.{drop}
-use Rattle.fields.specs.Field.{field_at}
-use Rattle.fields.specs.declared.field.Field.TheVariants.{At}
-use Rattle.fields.proofs.Fields.{field_is, field_broken, field_end}
-use Rattle.checks.proofs.SplitLaws.{pass_start, pass_on, pass_letter, pass_end, pass_broken}
+-- `checks::sheet::split_fields` meets its contract, field by field.
+-- Assumes nothing.
+use Rattle.std.proofs.Common.{arith}
+use Rattle.checks.proofs.SplitLaws.{pass_start, pass_fits, pass_on, pass_letter, pass_end, rest_fits, pass_broken}
 use Rattle.checks.proofs.sheet.split_fields.Goals as goal
 
-pub loop-letter-init : goal.loop-letter-init
-loop-letter-init c =
-    pass_start _ _
+pub loop-field-init : goal.loop-field-init
+loop-field-init c =
+    rw (c.into_iter-field-iterator.ensures.into_iter_gives, c.new-field-items.ensures) (pass_start _ _)
 
-pub returns-then-letter-split : goal.returns-then-letter-split
-returns-then-letter-split c =
-    let found : field_at c.loop-letter.at (drop c.loop-letter.at c.args.body.now)
-    ≡ At c.in-At.letter c.in-At.start c.in-At.next = sym c.field_at-f.ensures.value ∙ c.in-At.is in
-    pass_letter _ _ _ _ c.loop-letter.invariant _ _ _ (found) c.if-letter-split.true
+pub returns-in_default : goal.returns-in_default
+returns-in_default c =
+    pass_broken _ _ _ _ _ c.loop-field.invariant _ (rw c.in_default.is at c.in-Some.ensures.steps)
 
-pub overflow_add-count : goal.overflow_add-count
-overflow_add-count c =
-    omega (arith, c.loop-letter.invariant.inside, c.loop-letter.invariant.size)
-
-pub loop-letter-smaller : goal.loop-letter-smaller
-loop-letter-smaller c =
-    let found : field_at c.loop-letter.at (drop c.loop-letter.at c.args.body.now)
-    ≡ At c.in-At.letter c.in-At.start c.in-At.next = sym c.field_at-f.ensures.value ∙ c.in-At.is in
-    let f = field_is _ _ _ _ _ c.loop-letter.invariant.inside (found) in omega (arith, f.begins, f.order, f.inside)
-
-pub loop-letter-preserved : goal.loop-letter-preserved
-loop-letter-preserved c =
-    let found : field_at c.loop-letter.at (drop c.loop-letter.at c.args.body.now)
-    ≡ At c.in-At.letter c.in-At.start c.in-At.next = sym c.field_at-f.ensures.value ∙ c.in-At.is in
-    pass_on _ _ _ _ c.loop-letter.invariant _ _ _ (found) c.if-letter-split.false
+pub returns-then-field-letter : goal.returns-then-field-letter
+returns-then-field-letter c =
+    pass_letter _ _ _ _ _ c.loop-field.invariant _ _ _ (rw c.in-Ok.is at c.in-Some.ensures.steps) c.if-field-letter.true
 
 pub overflow_add-result : goal.overflow_add-result
 overflow_add-result c =
-    omega (arith, c.loop-letter.invariant.inside, c.loop-letter.invariant.size)
+    let fits = rest_fits _ _ _ _ _ c.loop-field.invariant _ (rw c.in_default.is at c.in-Some.ensures.steps) in
+    omega (arith, c.loop-field.invariant.size)
 
-pub returns-in-Broken : goal.returns-in-Broken
-returns-in-Broken c =
-    pass_broken _ _ _ _ c.loop-letter.invariant (field_broken _ _ (sym c.field_at-f.ensures.value ∙ c.in-Broken.is))
+pub overflow_add-end : goal.overflow_add-end
+overflow_add-end c =
+    let fits = pass_fits _ _ _ _ _ c.loop-field.invariant _ _ _ (rw c.in-Ok.is at c.in-Some.ensures.steps) in
+    omega arith
 
-pub returns-in-End : goal.returns-in-End
-returns-in-End c =
-    pass_end _ _ _ _ c.loop-letter.invariant (field_end _ _ (sym c.field_at-f.ensures.value ∙ c.in-End.is))
+pub overflow_add-count : goal.overflow_add-count
+overflow_add-count c =
+    let fits = pass_fits _ _ _ _ _ c.loop-field.invariant _ _ _ (rw c.in-Ok.is at c.in-Some.ensures.steps) in
+    omega (arith, c.loop-field.invariant.size)
+
+pub loop-field-preserved : goal.loop-field-preserved
+loop-field-preserved c =
+    pass_on _ _ _ _ _ c.loop-field.invariant _ _ _ (rw c.in-Ok.is at c.in-Some.ensures.steps) c.if-field-letter.false
+
+pub returns-in-None : goal.returns-in-None
+returns-in-None c =
+    pass_end _ _ _ _ _ c.loop-field.invariant c.in-None.ensures.steps.0

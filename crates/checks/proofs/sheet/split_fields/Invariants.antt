@@ -1,12 +1,8 @@
--- `sheet::split_fields` meets its contract: up to the place no field has the letter, and those from there on decide.
+-- `checks::sheet::split_fields` meets its contract: up to the place no field has the letter, and those that are left decide.
 -- Assumes nothing.
-use Prim.Native.Nat.{◌-◌}
-use lib.ListN.{length}
+use Rattle.fields.specs.List.{left}
 use Rattle.checks.proofs.SplitLaws.{Passed}
 use Rattle.checks.proofs.sheet.split_fields.Given as goal
 
-abbrev pub invariant-loop-letter : goal.invariant-loop-letter
-invariant-loop-letter l = Passed l.split l.body l.at l.count
-
-abbrev pub decreases-loop-letter : goal.decreases-loop-letter
-decreases-loop-letter l = length l.body - l.at
+abbrev pub invariant-loop-field : goal.invariant-loop-field
+invariant-loop-field l = Passed l.letter l.body l.end l.count (left l.field-iterator)
