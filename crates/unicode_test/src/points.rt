@@ -1,155 +1,111 @@
 // The columns and the white space of every code point, compared with the data.
-use crate::count::plus;
-use crate::{data, print};
-use characters::columns::Columns;
-use std::io;
+use crate::data::{Class, END, Run};
+use characters::columns::{Columns, columns_of};
+use characters::whitespace::{always_takes_space, is_whitespace, is_wordbreak_point};
 use std::io::Stdout;
+use std::num::Wrapping;
+use std::{fmt, io};
 
 // What was seen of the code points so far.
-#[derive(Clone, Copy)]
+#[derive(Clone, Copy, Default)]
 struct Seen {
-    listed: u32,
-    controls: u32,
-    zero: u32,
-    one: u32,
-    two: u32,
-    white: u32,
-    white_off: u32,
-    differences: u32,
+    listed: Wrapping<u32>,
+    controls: Wrapping<u32>,
+    zero: Wrapping<u32>,
+    one: Wrapping<u32>,
+    two: Wrapping<u32>,
+    white: Wrapping<u32>,
+    white_off: Wrapping<u32>,
+    differences: Wrapping<u32>,
 }
 
-// An answer of `columns_of` is a number here: that of the columns, a byte, or one of these two.
-const CONTROL: u32 = 256;
-
-const OFF_LIST: u32 = 257;
-
-fn number_of(c: Columns) -> u32 {
-    match c {
-        Columns::Cols(n) => n as u32,
-        Columns::Control => CONTROL,
-        Columns::OffList => OFF_LIST,
+impl Seen {
+    // One code point more. What is off the list must be no white space to the crate.
+    fn count(&mut self, out: &Stdout, code: u32, class: Class) -> io::Result<()> {
+        let columns = columns_of(code);
+        let listed = columns != Columns::OffList;
+        match columns {
+            Columns::Control => self.controls += 1,
+            Columns::Cols(0) => self.zero += 1,
+            Columns::Cols(1) => self.one += 1,
+            Columns::Cols(_) => self.two += 1,
+            Columns::OffList => {}
+        }
+        // White space that is off the list is written and is no difference: document 01 leaves it out.
+        if class.white && !listed {
+            println!(out; "white space left out: U+{code:04x}")?;
+            self.white_off += 1;
+        }
+        let white = class.white && listed;
+        self.listed += u32::from(listed);
+        self.white += u32::from(white);
+        if !columns_agree(code, class, columns) || !white_agrees(code, white) {
+            self.differences += 1;
+        }
+        Ok(())
     }
 }
 
-fn has(class: u32, bit: u32) -> bool {
-    class & bit != 0
+// The counts, a line each.
+impl fmt::Display for Seen {
+    fn fmt<W: fmt::Write>(&self, f: &mut fmt::Formatter<W>) -> fmt::Result {
+        writeln!(f, "on the list: {}", self.listed)?;
+        writeln!(f, "controls: {}", self.controls)?;
+        writeln!(f, "with 0 columns: {}", self.zero)?;
+        writeln!(f, "with 1 column: {}", self.one)?;
+        writeln!(f, "with 2 columns: {}", self.two)?;
+        writeln!(f, "white space on the list: {}", self.white)?;
+        write!(f, "white space off the list: {}", self.white_off)
+    }
 }
 
 // What a character on the list must answer: a control for Cc; 0 columns for Mn, Me and U+200B;
 // 2 for W and F; else 1.
-fn due(code: u32, class: u32) -> u32 {
-    if has(class, data::CONTROL) {
-        return CONTROL;
+fn due(code: u32, class: Class) -> Columns {
+    if class.control {
+        Columns::Control
+    } else if class.mark || code == 0x200B {
+        Columns::Cols(0)
+    } else if class.wide {
+        Columns::Cols(2)
+    } else {
+        Columns::Cols(1)
     }
-    if has(class, data::MARK) {
-        return 0;
-    }
-    if code == 0x200B {
-        return 0;
-    }
-    if has(class, data::WIDE) { 2 } else { 1 }
 }
 
 // Whether `columns_of` may answer so: on the list only what is assigned, without U+0000 and with
 // every control.
-fn columns_agree(code: u32, class: u32, got: u32) -> bool {
-    if code == 0 {
-        return got == OFF_LIST;
+fn columns_agree(code: u32, class: Class, columns: Columns) -> bool {
+    if columns == Columns::OffList {
+        code == 0 || !class.control
+    } else {
+        code != 0 && class.assigned && columns == due(code, class)
     }
-    if got == OFF_LIST {
-        return !has(class, data::CONTROL);
-    }
-    has(class, data::ASSIGNED) && got == due(code, class)
 }
 
-// `always_takes_space` by the Rust's rule: U+00A0, and all that is no white space.
-fn takes_space(code: u32, white: bool) -> bool {
-    if code == 0xA0 {
-        return true;
-    }
-    !white
-}
-
-// `is_wordbreak_point` by the Rust's rule: never U+00A0; U+200B, and all white space.
-fn breaks_word(code: u32, white: bool) -> bool {
-    if code == 0xA0 {
-        return false;
-    }
-    if code == 0x200B {
-        return true;
-    }
-    white
-}
-
-// Whether the three questions on white space are answered for a code point that is white or not.
+// Whether the three questions on white space are answered for a code point that is white or not, by
+// the Rust's rules: U+00A0 takes space and never breaks a word, and U+200B breaks one.
 fn white_agrees(code: u32, white: bool) -> bool {
-    characters::whitespace::is_whitespace(code) == white
-        && characters::whitespace::always_takes_space(code) == takes_space(code, white)
-        && characters::whitespace::is_wordbreak_point(code) == breaks_word(code, white)
-}
-
-// White space that is off the list is written and is no difference: document 01 leaves it out.
-fn off_list(out: &Stdout, code: u32, white: bool) -> io::Result<bool> {
-    if white {
-        print::code_line(out, b"white space left out: U+", code)?;
-    }
-    Ok(white)
-}
-
-// One code point more. What is off the list must be no white space to the crate.
-fn count(out: &Stdout, s: Seen, code: u32, class: u32) -> io::Result<Seen> {
-    let got = number_of(characters::columns::columns_of(code));
-    let listed = got != OFF_LIST;
-    let white = listed && has(class, data::WHITE);
-    let off = !listed && off_list(out, code, has(class, data::WHITE))?;
-    let agree = columns_agree(code, class, got) && white_agrees(code, white);
-    Ok(Seen {
-        listed: plus(s.listed, listed),
-        controls: plus(s.controls, got == CONTROL),
-        zero: plus(s.zero, got == 0),
-        one: plus(s.one, got == 1),
-        two: plus(s.two, got == 2),
-        white: plus(s.white, white),
-        white_off: plus(s.white_off, off),
-        differences: plus(s.differences, !agree),
-    })
-}
-
-fn none() -> Seen {
-    Seen {
-        listed: 0,
-        controls: 0,
-        zero: 0,
-        one: 0,
-        two: 0,
-        white: 0,
-        white_off: 0,
-        differences: 0,
-    }
-}
-
-fn report(out: &Stdout, s: Seen) -> io::Result<()> {
-    print::line(out, b"on the list: ", s.listed)?;
-    print::line(out, b"controls: ", s.controls)?;
-    print::line(out, b"with 0 columns: ", s.zero)?;
-    print::line(out, b"with 1 column: ", s.one)?;
-    print::line(out, b"with 2 columns: ", s.two)?;
-    print::line(out, b"white space on the list: ", s.white)?;
-    print::line(out, b"white space off the list: ", s.white_off)
+    is_whitespace(code) == white
+        && always_takes_space(code) == (code == 0xA0 || !white)
+        && is_wordbreak_point(code) == (code != 0xA0 && (code == 0x200B || white))
 }
 
 // Walks all code points, writes the counts and answers the number of differences.
-pub fn compare(out: &Stdout, text: &[u8]) -> io::Result<u32> {
-    let mut reading = data::start(text);
-    let mut seen = none();
-    let mut code: u32 = 0;
-    while code < data::END {
-        reading = data::at_point(reading, text, code);
-        seen = count(out, seen, code, reading.class)?;
-        code += 1;
+pub fn compare(out: &Stdout, text: &str) -> io::Result<Wrapping<u32>> {
+    let mut runs = text.lines().filter_map(Run::of_line).peekable();
+    let mut run_count = Wrapping(0u32);
+    let mut class = Class::default();
+    let mut seen = Seen::default();
+    for code in 0..END {
+        if let Some(run) = runs.next_if(|run| run.first == code) {
+            class = run.class;
+            run_count += 1;
+        }
+        seen.count(out, code, class)?;
     }
-    print::line(out, b"runs of the data: ", reading.runs)?;
-    print::line(out, b"code points: ", code)?;
-    report(out, seen)?;
+    println!(out; "runs of the data: {run_count}")?;
+    println!(out; "code points: {END}")?;
+    println!(out; "{seen}")?;
     Ok(seen.differences)
 }
