@@ -13,7 +13,8 @@ use Rattle.fields.specs.Job.{JobField, read_field, head_of, rest_of, units, body
 use Rattle.fields.specs.Answer.{rendered, refused, give, Finishes}
 use Rattle.fields.specs.Refusals.{setup_of, fields_of, block_refusal, job_refusal}
 use Rattle.fields.specs.declared.job.Setup.{Setup}
-use Rattle.fields.specs.declared.answer.Rendered.{Rendered}
+use Rattle.std.specs.Prelude as rust
+use Rattle.fields.specs.declared.refusal.Refusal.{Refusal}
 use Rattle.fields.proofs.Fields.{raws_cons}
 use Rattle.fields.proofs.Jobs.{head_is}
 use Rattle.fields.proofs.Texts.{rest}
@@ -99,7 +100,7 @@ module _ (job : List ℕ) (s : Setup) (g : Good job s) where
       on_ended (λ (ls : List Line). length ls ≤ units fs) s fs (few_lines s fs)
 
   -- The lines are in the store and the names behind them, and the head goes in front, or the store is too short.
-  pub answers_sheet : (frame : Frame) (end : End) (r : Rendered) (store mid store' : List ℕ) → frame ≡ frame_of s
+  pub answers_sheet : (frame : Frame) (end : End) (r : rust.Result ℕ Refusal) (store mid store' : List ℕ) → frame ≡ frame_of s
       → WrapsUp frame (body_of job) store (Ok end) mid → Finishes end.place end.lines mid r store' → rendered r store' ≡ render_answer job store
   unfolding flat_judged give
   answers_sheet frame end r store mid store' e up finish =

@@ -1,14 +1,12 @@
 // The block's lines in the store and the names that wait behind them, or what becomes of them where the block is too narrow. What a
 // function here requires, its callers in this crate show.
 ghost use Rattle.std.specs.Prelude.{◌≡◌, ◌≤◌, length};
-ghost use Rattle.fields.specs.Answer.{rendered, refused, give};
 ghost use Rattle.fields.specs.Field.{raws};
 ghost use Rattle.fields.specs.Job.{body_units};
 ghost use Rattle.flush_word.specs.Keep.{CountsWithinUnits, BuffersLongEnough};
 ghost use Rattle.render.specs.Render.{new_state, FrameSmall, FlushesWrapping, WrapsUp};
 
 use crate::body::add_fields;
-use fields::answer::{Rendered, refuse};
 use flush_word::state::{State, no_blanks, no_word};
 use flush_word::word::flush_word;
 use hard_wrap::error::TooNarrow;
@@ -95,11 +93,4 @@ pub fn wrap_lines(frame: Frame, body: &[u8], out: &mut [u8]) -> Result<End, TooN
     let mut wb = [0u8; 4096];
     let mut wt = [0u32; 4096];
     wrap_fields(frame, body, &mut lb, &mut lt, &mut wb, &mut wt, out)
-}
-
-// TooNarrow: refusal 5, and the lines that were closed before it are zeroed with the whole store.
-pub fn too_narrow(store: &mut [u8]) -> Rendered
-    ensures { rendered result store.new ≡ give (refused 5) store.old }
-{
-    refuse(5, store)
 }

@@ -1,42 +1,38 @@
 -- `render::render` meets its contract: a refusal 1 to 4, the sheet or refusal 8, and refusal 5.
 -- Assumes nothing.
-use mathlib.Core.Path.{sym, ap, ◌∙◌}
-use native.Mathlib.Omega.{arith}
-use Rattle.fields.proofs.Jobs.{job_headless}
-use Rattle.fields.specs.Job.{head_in}
+use Rattle.std.proofs.Common.{◌≡◌, ℕ, ◌<◌, ◌≤◌, refl, sym, ap, ◌∙◌, arith}
+use Rattle.fields.proofs.Finishing.{refuses, refuses_check}
+use Rattle.fields.proofs.First.{is_some}
+use Rattle.fields.specs.declared.refusal.Refusal.TheVariants.{TooNarrow}
+use Rattle.fields.proofs.Jobs.{job_refusal_small}
 use Rattle.render.proofs.Answering.{Good, good_job, few_units, frame_small, answers_refused, answers_sheet, answers_narrow}
 use Rattle.render.proofs.render.Goals as goal
 
-pub returns-then-n-ne0 : goal.returns-then-n-ne0
-returns-then-n-ne0 c =
-    c.refuse.ensures ∙ answers_refused _ _ _ c.job_refusal-n.ensures c.if-n-ne0.true
+pub returns-in-Err : goal.returns-in-Err
+returns-in-Err c =
+    c.refuse.ensures
+    ∙ refuses_check _ _ _ c.in-Err.ensures.number (job_refusal_small c.args.job.now)
+    ∙ answers_refused _ _ _ refl (λ e. let some = is_some c.in-Err.refusal in omega (arith, some, c.in-Err.ensures.number))
 
 pub slice_bounds-wrap_lines-count : goal.slice_bounds-wrap_lines-count
 slice_bounds-wrap_lines-count c =
-    let good : Good c.args.job.now c.in-Block.setup = good_job _ _ (sym c.read_head-h.ensures ∙ ap head_in c.in-Block.is) (sym c.job_refusal-n.ensures ∙ c.if-n-ne0.false) in
-    (good).long
+    (good_job _ _ c.in-Ok.ensures.setup (sym c.in-Ok.ensures.number)).long
 
 pub slice_bounds-wrap_lines-start : goal.slice_bounds-wrap_lines-start
 slice_bounds-wrap_lines-start c =
-    let good : Good c.args.job.now c.in-Block.setup = good_job _ _ (sym c.read_head-h.ensures ∙ ap head_in c.in-Block.is) (sym c.job_refusal-n.ensures ∙ c.if-n-ne0.false) in
-    let g = good in omega (arith, g.long)
+    let good = good_job _ _ c.in-Ok.ensures.setup (sym c.in-Ok.ensures.number) in omega (arith, good.long)
 
-pub wrap_lines-lines-requires : goal.wrap_lines-lines-requires
-wrap_lines-lines-requires c =
-    let good : Good c.args.job.now c.in-Block.setup = good_job _ _ (sym c.read_head-h.ensures ∙ ap head_in c.in-Block.is) (sym c.job_refusal-n.ensures ∙ c.if-n-ne0.false) in
-    let g = good in
-    (frame_small _ _ g _ c.frame_of.ensures (omega (arith, c.in-Block.known_told-1-own.given)) (omega (arith, c.in-Block.known_told-1-own.given)), few_units _ _ g)
+pub wrap_lines-requires : goal.wrap_lines-requires
+wrap_lines-requires c =
+    let good : Good c.args.job.now c.in-Ok.setup = good_job _ _ c.in-Ok.ensures.setup (sym c.in-Ok.ensures.number) in
+    (frame_small _ _ good _ c.frame_of.ensures (omega (arith, c.in-Ok.known_told-1-own.given)) (omega (arith, c.in-Ok.known_told-1-own.given)), few_units _ _ good)
 
-pub returns-in-Ok : goal.returns-in-Ok
-returns-in-Ok c =
-    let good : Good c.args.job.now c.in-Block.setup = good_job _ _ (sym c.read_head-h.ensures ∙ ap head_in c.in-Block.is) (sym c.job_refusal-n.ensures ∙ c.if-n-ne0.false) in
-    answers_sheet _ _ (good) _ _ c.finish.result _ _ _ c.frame_of.ensures c.in-Ok.ensures c.finish.ensures
+pub returns-in-Ok-wrap_lines : goal.returns-in-Ok-wrap_lines
+returns-in-Ok-wrap_lines c =
+    let good : Good c.args.job.now c.in-Ok.setup = good_job _ _ c.in-Ok.ensures.setup (sym c.in-Ok.ensures.number) in
+    answers_sheet _ _ good _ _ c.finish.result _ _ _ c.frame_of.ensures c.in-Ok-wrap_lines.ensures c.finish.ensures
 
-pub returns-in-Err : goal.returns-in-Err
-returns-in-Err c =
-    let good : Good c.args.job.now c.in-Block.setup = good_job _ _ (sym c.read_head-h.ensures ∙ ap head_in c.in-Block.is) (sym c.job_refusal-n.ensures ∙ c.if-n-ne0.false) in
-    c.too_narrow.ensures ∙ answers_narrow _ _ (good) _ _ _ _ c.frame_of.ensures c.in-Err.ensures c.store-in-Block-1.given
-
-pub returns-in-Malformed : goal.returns-in-Malformed
-returns-in-Malformed c =
-    c.refuse-in-Malformed.ensures ∙ answers_refused _ _ 1 (job_headless _ (sym c.read_head-h.ensures ∙ ap head_in c.in-Malformed.is)) (λ e. omega arith)
+pub returns-in-Err-wrap_lines : goal.returns-in-Err-wrap_lines
+returns-in-Err-wrap_lines c =
+    let good : Good c.args.job.now c.in-Ok.setup = good_job _ _ c.in-Ok.ensures.setup (sym c.in-Ok.ensures.number) in
+    c.refuse-in-Err-wrap_lines.ensures ∙ refuses TooNarrow 5 _ refl refl ∙ answers_narrow _ _ good _ _ _ _ c.frame_of.ensures c.in-Err-wrap_lines.ensures c.wrap_lines.auto.out
