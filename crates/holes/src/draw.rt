@@ -11,7 +11,7 @@ use tagged_line::line::{Line, push_drawn, push_str};
 use tagged_line::piece::add_pieces;
 
 // How a hole is drawn: its text under the border's annotation, as `to_string` does, or its text or name as it stands, as
-// `into_tagged_line` does.
+// `into_tagged_line` does. A closure in its place would have to bring the contract of `push_piece` with it.
 #[derive(Clone, Copy, Debug, PartialEq, Eq)]
 enum Shown {
     AsText,
