@@ -1,4 +1,4 @@
-// Walks over the lines between two places.
+// Walks over the lines between two places. The loops go by places and are no iterators over lines, since places are what is asked for.
 ghost use Rattle.std.specs.Prelude.{◌≤◌};
 ghost use Rattle.bodies.specs.Walk.{TopIn, PassesTop, TellsTop, WalkedIn, Walks, LastIn, FindsLast, SkipsTo};
 
@@ -65,7 +65,7 @@ pub fn walk_lines(s: &[u8], from: usize, to: usize) -> Walked
     walked
 }
 
-// The place of the last line between two places, or the second where there is none.
+// The place of the last line between two places, or the second where there is none: the lines before it end there in either case.
 pub fn last_line(s: &[u8], from: usize, to: usize) -> usize
     ensures last_in { LastIn s.now from to result }
     ensures finds_last { FindsLast s.now from to result }

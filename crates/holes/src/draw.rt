@@ -10,7 +10,7 @@ use places::holes::{Hole, Holes};
 use tagged_line::line::Line;
 
 // How a hole is drawn: its text under the border's annotation, as `to_string` does, or its text or name as it stands, as
-// `into_tagged_line` does.
+// `into_tagged_line` does. A closure in its place would have to bring the contract of `push_piece` with it.
 #[derive(Clone, Copy, Debug, PartialEq, Eq)]
 enum Shown {
     AsText,

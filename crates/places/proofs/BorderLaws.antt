@@ -4,7 +4,7 @@ use mathlib.Core.Path.{◌≡◌, refl, subst}
 use mathlib.Core.Bool.{◌&&◌}
 use mathlib.Core.Option.{Option, none, some, map}
 use mathlib.Core.List.{List, [], ◌∷◌}
-use Prim.Native.Nat.{ℕ, suc, ◌+◌, ◌-◌, ◌*◌, ◌≤◌, ◌<◌}
+use Prim.Native.Nat.{ℕ, suc, ◌+◌, ◌-◌, ◌*◌, ◌≤◌, ◌<◌, min}
 use native.Mathlib.Omega.{arith}
 use lib.Dec.{leb, eqb}
 use lib.ListN.{length, take, drop, get_or, drop_of_length-le}
@@ -16,7 +16,7 @@ use Rattle.fields.specs.Sheet.{Piece, read_piece, is_segment}
 use Rattle.fields.specs.Spans.{Hole, RenderLine, text, border, raw_holes, read_holes, ends_within, holed, read_holed, read_border, read_line}
 use Rattle.fields.specs.Places.{HolesFrom}
 use Rattle.places.specs.Border.{BorderAt}
-use Rattle.places.proofs.HoleLaws.{holes_nil}
+use Rattle.places.proofs.HolesLaws.{holes_nil}
 
 -- of a border that a reading gives
 abbrev OnBorder : (ℕ → List ℕ → List Hole → Type 0) → Option RenderLine → Type 0
@@ -107,18 +107,13 @@ pub holed_cut : (s : List ℕ) (m n : ℕ) → n ≡ get_or s 1 0 * 256 + get_or
 unfolding count
 holed_cut s m n k l h a ss hs e = absurd (omega (arith, (holed_is s a ss hs e).long))
 
--- ANOTHER BORDER IS A B.
-pub plain_found : (l : ℕ) (s : List ℕ) → (l ≡ 0x47 → ⊥) → (a : ℕ) (ss : List ℕ) (hs : List Hole)
-    → read_line (whole l s) ≡ some (border a ss hs) → BorderAt s 1 (length s) a ss hs
-plain_found l s n a ss hs e = subst (OnBorder (BorderAt s 1 (length s))) e (plain_line l s n)
-
--- An empty content is no border.
-pub plain_none : (l : ℕ) (s : List ℕ) (m : ℕ) → length s < 1 → (l ≡ 0x47 → ⊥) → (a : ℕ) (ss : List ℕ) (hs : List Hole)
-    → read_line (whole l s) ≡ some (border a ss hs) → BorderAt s m m a ss hs
+-- ANOTHER BORDER IS A B, and an empty content is no border.
+pub plain_found : (l : ℕ) (s : List ℕ) (m : ℕ) → m ≡ min (length s) 1 → (l ≡ 0x47 → ⊥) → (a : ℕ) (ss : List ℕ) (hs : List Hole)
+    → read_line (whole l s) ≡ some (border a ss hs) → BorderAt s m (length s) a ss hs
 unfolding read_line
-plain_none l (b ∷ s) m h n a ss hs e = absurd (omega arith)
-plain_none l [] m h n a ss hs e =
-    subst (OnBorder (BorderAt [] m m)) e
+plain_found l (b ∷ s) m k n a ss hs e = let one : m ≡ 1 = omega arith in rw one (subst (OnBorder (BorderAt (b ∷ s) 1 (length (b ∷ s)))) e (plain_line l (b ∷ s) n))
+plain_found l [] m k n a ss hs e =
+    subst (OnBorder (BorderAt [] m (length {A = ℕ} []))) e
     (rw (ne_eqb l 0x47 n)
-    (by_if (OnBorder (BorderAt [] m m)) (eqb l 0x4C) (λ _. no_text (BorderAt [] m m) (read_all read_piece (raws [])))
-    (λ _. by_if (OnBorder (BorderAt [] m m)) (eqb l 0x42) (λ _. tt) (λ _. tt))))
+    (by_if (OnBorder (BorderAt [] m (length {A = ℕ} []))) (eqb l 0x4C) (λ _. no_text (BorderAt [] m (length {A = ℕ} [])) (read_all read_piece (raws [])))
+    (λ _. by_if (OnBorder (BorderAt [] m (length {A = ℕ} []))) (eqb l 0x42) (λ _. tt) (λ _. tt))))

@@ -1,10 +1,9 @@
 // The parts of a border's field.
 ghost use Rattle.places.specs.Border.{PartsIn, FindsParts};
 
-use fields::field::wide;
-
 // Where the segments of a B or G field's content begin, and where they end: there the holes begin.
-#[derive(Clone, Copy)]
+// Both are the content's end where it is too short. That is no None: the callers' contents passed the checks, and draw nothing then.
+#[derive(Clone, Copy, Debug, PartialEq, Eq)]
 pub struct Parts {
     pub segs: usize,
     pub holes: usize,
@@ -15,13 +14,17 @@ fn holed_parts(content: &[u8]) -> Parts
     ensures parts_in { PartsIn content.now result }
     ensures finds_parts { FindsParts 0x47 content.now result }
 {
-    let n = content.len();
-    if n < 3 {
-        return Parts { segs: n, holes: n };
-    }
-    let count = wide(content[1]) * 256 + wide(content[2]);
-    if n - 3 < count {
-        return Parts { segs: n, holes: n };
+    let end = content.len();
+    let none = Parts {
+        segs: end,
+        holes: end,
+    };
+    let [_, h, o, behind @ ..] = content else {
+        return none;
+    };
+    let count = usize::from(u16::from_be_bytes([*h, *o]));
+    if behind.len() < count {
+        return none;
     }
     Parts {
         segs: 3,
@@ -37,9 +40,9 @@ pub fn border_parts(letter: u8, content: &[u8]) -> Parts
     if letter == b'G' {
         return holed_parts(content);
     }
-    let n = content.len();
-    if n < 1 {
-        return Parts { segs: n, holes: n };
+    let end = content.len();
+    Parts {
+        segs: end.min(1),
+        holes: end,
     }
-    Parts { segs: 1, holes: n }
 }

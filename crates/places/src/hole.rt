@@ -1,4 +1,4 @@
-// The holes of a G field's content, by their places.
+// The hole at a place of a G field's content, for who keeps places; `holes::Holes` gives the same holes one after the other.
 ghost use Rattle.places.specs.Hole.{HoleIn, RawAt};
 
 use fields::field::wide;
