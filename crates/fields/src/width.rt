@@ -14,6 +14,7 @@ fn walked_width(text: &[u8]) -> usize
 {
     let mut at = 0;
     let mut cols = 0;
+    // A turn passes a run and a character, of any number of bytes: no iterator of the library goes so.
     loop {
         let run = plain_run(&text[at..], true);
         cols += run.cols;
