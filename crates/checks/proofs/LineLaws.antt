@@ -29,10 +29,6 @@ pub text_line : (l : ℕ) (s : List ℕ) → l ≡ 0x4C → first_over piece_ref
 unfolding line_refusal read_line
 text_line l s e = pieces_all (raws s) ∙ rw e (mapped (λ x. unless (readable_line x)) text (read_all read_piece (raws s)))
 
--- a border without holes
-pub border_line : (l : ℕ) (s : List ℕ) → l ≡ 0x42 → line_refusal (whole 0x42 s) ≡ line_refusal (whole l s)
-border_line l s e = ap (λ (x : ℕ). line_refusal (whole x s)) (sym e)
-
 -- another letter
 pub no_line : (l : ℕ) (s : List ℕ) → (l ≡ 0x4C → ⊥) → (l ≡ 0x42 → ⊥) → (l ≡ 0x47 → ⊥) → 1 ≡ line_refusal (whole l s)
 unfolding line_refusal read_line

@@ -31,6 +31,7 @@ fn check_body(width: u8, lines: &[u8]) -> Result<(), Refusal>
 }
 
 // The content of a C field: a width and lines.
+#[tactic(auto, using(crate::proofs::LineLaws::short_plain, crate::proofs::LineLaws::plain_body))]
 fn check_plain_content(content: &[u8]) -> Result<(), Refusal>
     ensures { number_of result ≡ plain_cell_refusal (whole 0x43 content.now) }
 {
@@ -41,6 +42,7 @@ fn check_plain_content(content: &[u8]) -> Result<(), Refusal>
 }
 
 // The content of a K field: a width, the number of rows that it spans, and lines.
+#[tactic(auto, using(crate::proofs::LineLaws::short_span, crate::proofs::LineLaws::wrong_span, crate::proofs::LineLaws::span_body))]
 fn check_span_content(content: &[u8]) -> Result<(), Refusal>
     ensures { number_of result ≡ cell_refusal (whole 0x4B content.now) }
 {
@@ -51,6 +53,7 @@ fn check_span_content(content: &[u8]) -> Result<(), Refusal>
 }
 
 // The content of a V field: a position of two bytes, a width, the number of rows left, and lines.
+#[tactic(auto, using(crate::proofs::LineLaws::short_hanging, crate::proofs::LineLaws::wrong_rows, crate::proofs::LineLaws::hanging_body))]
 fn check_hanging_content(content: &[u8]) -> Result<(), Refusal>
     ensures { number_of result ≡ hanging_refusal (whole 0x56 content.now) }
 {
@@ -61,6 +64,7 @@ fn check_hanging_content(content: &[u8]) -> Result<(), Refusal>
 }
 
 // A cell that spans no rows is a C field.
+#[tactic(auto, using(crate::proofs::LineLaws::no_plain))]
 fn check_plain_cell(field: Field<'_>) -> Result<(), Refusal>
     ensures { number_of result ≡ plain_cell_refusal (whole_of field.entry) }
 {
@@ -71,6 +75,7 @@ fn check_plain_cell(field: Field<'_>) -> Result<(), Refusal>
 }
 
 // A cell is a C or a K field.
+#[tactic(auto, using(crate::proofs::LineLaws::no_span))]
 fn check_cell(field: Field<'_>) -> Result<(), Refusal>
     ensures { number_of result ≡ cell_refusal (whole_of field.entry) }
 {
@@ -81,6 +86,7 @@ fn check_cell(field: Field<'_>) -> Result<(), Refusal>
 }
 
 // A cell that hangs from a sheet is a V field.
+#[tactic(auto, using(crate::proofs::LineLaws::no_hanging))]
 pub fn check_hanging(field: Field<'_>) -> Result<(), Refusal>
     ensures { number_of result ≡ hanging_refusal (whole_of field.entry) }
 {
@@ -91,6 +97,7 @@ pub fn check_hanging(field: Field<'_>) -> Result<(), Refusal>
 }
 
 // At most 16 fields, each judged by the check; more are a crooked record.
+#[tactic(auto, unfolding(crate::specs::Walk::few_refusal))]
 fn check_few<F: Fn(Field<'_>) -> Result<(), Refusal>>(cells: &[u8], check: F) -> Result<(), Refusal>
     requires { F.IsAlwaysCallable check }
     ensures { (judge : Raw → ℕ) → Judges F.post check judge → number_of result ≡ few_refusal judge (raws cells.now) }

@@ -24,6 +24,7 @@ fn check_end(segments: usize, end: usize) -> Result<(), Refusal>
 }
 
 // A hole of a border of so many segments: 1 or 3 of its field, or 1 where that passes and ends past the last segment.
+#[tactic(auto, using(crate::proofs::HoleLaws::text_size))]
 fn check_hole(segments: usize, place: usize, field: Field<'_>) -> Result<(), Refusal>
     requires { place < 65536 }
     ensures { number_of result ≡ hole_refusal segments (punched place (whole_of field.entry)) }
@@ -36,6 +37,7 @@ fn check_hole(segments: usize, place: usize, field: Field<'_>) -> Result<(), Ref
 }
 
 // The refusal that is given first of all holes of a border of so many segments; a rest that is no hole is a crooked record.
+#[tactic(auto, using(fields::proofs::Parts::part_length))]
 fn check_holes(holes: &[u8], segments: usize) -> Result<(), Refusal>
     requires { length holes.now < 65536 }
     ensures { number_of result ≡ holes_refusal segments (raw_holes holes.now) }
@@ -64,6 +66,7 @@ fn check_holes(holes: &[u8], segments: usize) -> Result<(), Refusal>
 }
 
 // The content of a G field: an annotation, the number of segments in two bytes, the segments, and at least one hole.
+#[tactic(auto, using(crate::proofs::HoleLaws::short_holed))]
 pub fn check_holed(field: Field<'_>) -> Result<(), Refusal>
     ensures { number_of result ≡ line_refusal (whole 0x47 field.entry.content.now) }
 {

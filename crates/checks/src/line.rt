@@ -12,6 +12,7 @@ use fields::raw::Field;
 use fields::refusal::Refusal;
 
 // An L field holds pieces; a B field is a border, and a G field one with holes.
+#[tactic(auto, using(crate::proofs::LineLaws::no_line))]
 fn check_line(field: Field<'_>) -> Result<(), Refusal>
     ensures { number_of result ≡ line_refusal (whole_of field.entry) }
 {

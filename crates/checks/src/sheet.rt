@@ -34,6 +34,7 @@ pub struct Parts {
 }
 
 // The fields split at the first one with a letter; a rest that is no field counts as one.
+#[tactic(auto, using(crate::proofs::SplitLaws::pass_fits, crate::proofs::SplitLaws::rest_fits))]
 fn split_fields(body: &[u8], letter: u8) -> Split
     ensures { SplitAt letter body.now result }
 {
@@ -88,6 +89,7 @@ pub fn sheet_parts(sheet: &[u8]) -> Parts
 }
 
 // The fields behind a head that says so many lines: a crooked record for another number of lines, and else the refusal that is given first.
+#[tactic(auto, using(crate::proofs::SheetLaws::wrong_count))]
 fn check_counted(count: usize, body: &[u8]) -> Result<(), Refusal>
     ensures { number_of result ≡ counted_refusal count (raws body.now) }
 {
@@ -102,6 +104,7 @@ fn check_counted(count: usize, body: &[u8]) -> Result<(), Refusal>
 }
 
 // The refusal of a whole sheet, in the order 1, 2, 3.
+#[tactic(auto, using(crate::proofs::SheetLaws::no_head, crate::proofs::SheetLaws::headed_sheet))]
 pub fn check_sheet(sheet: &[u8]) -> Result<(), Refusal>
     ensures { number_of result ≡ sheet_refusal sheet.now }
 {

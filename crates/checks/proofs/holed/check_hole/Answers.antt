@@ -2,7 +2,7 @@
 -- Assumes nothing.
 use Rattle.std.proofs.Common.{◌∙◌, arith}
 use Rattle.fields.proofs.First.{handed_on, is_some}
-use Rattle.checks.proofs.HoleLaws.{hole_refused, hole_name, text_size, hole_text}
+use Rattle.checks.proofs.HoleLaws.{hole_refused, hole_name, hole_text}
 use Rattle.checks.proofs.holed.check_hole.Goals as goal
 
 pub returns-in_err-check_piece : goal.returns-in_err-check_piece
@@ -12,18 +12,6 @@ returns-in_err-check_piece c =
 pub returns-then-field-eq70 : goal.returns-then-field-eq70
 returns-then-field-eq70 c =
     c.check_end.ensures ∙ hole_name _ _ _ _ c.in_ok-check_piece.ensures c.if-field-eq70.true
-
-pub slice_bounds-text_width-count : goal.slice_bounds-text_width-count
-slice_bounds-text_width-count c =
-    let long = text_size _ _ c.in_ok-check_piece.ensures c.if-field-eq70.false in omega arith
-
-pub slice_bounds-text_width-start : goal.slice_bounds-text_width-start
-slice_bounds-text_width-start c =
-    let long = text_size _ _ c.in_ok-check_piece.ensures c.if-field-eq70.false in omega arith
-
-pub slice_bounds-text_width-end : goal.slice_bounds-text_width-end
-slice_bounds-text_width-end c =
-    let long = text_size _ _ c.in_ok-check_piece.ensures c.if-field-eq70.false in omega arith
 
 pub returns : goal.returns
 returns c =

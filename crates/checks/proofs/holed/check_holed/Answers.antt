@@ -3,13 +3,9 @@
 use Rattle.std.proofs.Common.{◌≡◌, ◌+◌, ◌-◌, ◌*◌, ◌<◌, length, get_or, take, drop, sym, ap, ◌∙◌, arith, length-drop}
 use Rattle.std.proofs.lemmas.Bool.Decides.{nat_tests}
 use Rattle.fields.proofs.Texts.{rest}
-use Rattle.checks.proofs.HoleLaws.{short_holed, bare_holed, crooked_holed, right_holed}
+use Rattle.checks.proofs.HoleLaws.{bare_holed, crooked_holed, right_holed}
 use Rattle.checks.proofs.holed.check_holed.Goals as goal
 use Rattle.checks.proofs.holed.check_holed.Goals.{then-is_empty-via-then-is_empty, then-is_empty-via-else-is_empty+then-not-all_segments}
-
-pub returns-in_default : goal.returns-in_default
-returns-in_default c =
-    short_holed _ c.in_default.len_below
 
 pub returns-in_default-split_at_checked : goal.returns-in_default-split_at_checked
 returns-in_default-split_at_checked c =

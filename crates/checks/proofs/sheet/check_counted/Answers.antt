@@ -5,12 +5,8 @@ use Rattle.fields.specs.First.{first_of}
 use Rattle.fields.specs.Refusal.{number_of}
 use Rattle.fields.specs.SpanRefusals.{hanging_refusal}
 use Rattle.checks.proofs.LineLaws.{hanging_crooked}
-use Rattle.checks.proofs.SheetLaws.{wrong_count, right_count}
+use Rattle.checks.proofs.SheetLaws.{right_count}
 use Rattle.checks.proofs.sheet.check_counted.Goals as goal
-
-pub returns-then-found-count : goal.returns-then-found-count
-returns-then-found-count c =
-    wrong_count _ _ c.body_parts-found.ensures _ c.if-found-count.true
 
 pub returns : goal.returns
 returns c =

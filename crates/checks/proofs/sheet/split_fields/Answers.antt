@@ -1,7 +1,6 @@
 -- `checks::sheet::split_fields` meets its contract, field by field.
 -- Assumes nothing.
-use Rattle.std.proofs.Common.{arith}
-use Rattle.checks.proofs.SplitLaws.{pass_start, pass_fits, pass_on, pass_letter, pass_end, rest_fits, pass_broken}
+use Rattle.checks.proofs.SplitLaws.{pass_start, pass_on, pass_letter, pass_end, pass_broken}
 use Rattle.checks.proofs.sheet.split_fields.Goals as goal
 
 pub loop-field-init : goal.loop-field-init
@@ -15,21 +14,6 @@ returns-in_default c =
 pub returns-then-field-letter : goal.returns-then-field-letter
 returns-then-field-letter c =
     pass_letter _ _ _ _ _ c.loop-field.invariant _ _ _ (rw c.in-Ok.is at c.in-Some.ensures.steps) c.if-field-letter.true
-
-pub overflow_add-result : goal.overflow_add-result
-overflow_add-result c =
-    let fits = rest_fits _ _ _ _ _ c.loop-field.invariant _ (rw c.in_default.is at c.in-Some.ensures.steps) in
-    omega (arith, c.loop-field.invariant.size)
-
-pub overflow_add-end : goal.overflow_add-end
-overflow_add-end c =
-    let fits = pass_fits _ _ _ _ _ c.loop-field.invariant _ _ _ (rw c.in-Ok.is at c.in-Some.ensures.steps) in
-    omega arith
-
-pub overflow_add-count : goal.overflow_add-count
-overflow_add-count c =
-    let fits = pass_fits _ _ _ _ _ c.loop-field.invariant _ _ _ (rw c.in-Ok.is at c.in-Some.ensures.steps) in
-    omega (arith, c.loop-field.invariant.size)
 
 pub loop-field-preserved : goal.loop-field-preserved
 loop-field-preserved c =
