@@ -14,8 +14,8 @@ pub struct Hole<'a> {
     pub piece: Piece<'a>,
 }
 
-#[tactic(auto, using(crate::proofs::Places::hole_short, crate::proofs::Places::hole_bare, crate::proofs::Places::hole_broken, crate::proofs::Places::hole_no_piece, crate::proofs::Places::hole_in))]
 // The hole at a place, and the place where the next one stands.
+#[tactic(auto, using(crate::proofs::Places::hole_short, crate::proofs::Places::hole_bare, crate::proofs::Places::hole_broken, crate::proofs::Places::hole_no_piece, crate::proofs::Places::hole_in))]
 fn read_at<'a>(bytes: &'a [u8], at: usize) -> Result<(Hole<'a>, usize), Broken>
     requires { at < length bytes.now }
     ensures { ReadsHole bytes.now at result }
@@ -33,7 +33,7 @@ fn read_at<'a>(bytes: &'a [u8], at: usize) -> Result<(Hole<'a>, usize), Broken>
 }
 
 // The holes of a border. Behind what is broken it gives nothing more.
-#[derive(Clone, Copy, Debug, Drop)]
+#[derive(Clone, Debug, Drop)]
 pub struct Holes<'a> {
     bytes: &'a [u8],
     at: usize,

@@ -7,7 +7,7 @@ use crate::piece::Pieces;
 use crate::walk::{Broken, FromField, Walk};
 
 // A line: a text, or a border with its annotation, its segments and its holes.
-#[derive(Clone, Copy, Debug, Drop)]
+#[derive(Clone, Debug, Drop)]
 pub enum Line<'a> {
     Text(Pieces<'a>),
     Border {
@@ -66,15 +66,14 @@ impl<'a> FromField<'a> for Line<'a> {
             b'L' => Some(Ok(Line::Text(Pieces::new(content, 0)))),
             b'B' => Some(plain_border(content)),
             b'G' => Some(holed_border(content)),
-            b'F' => None,
-            b'V' => None,
+            b'F' | b'V' => None,
             _ => Some(Err(Broken)),
         }
     }
 }
 
 // A line of a hanging cell, where no names wait and no cells hang.
-#[derive(Clone, Copy, Debug, Drop)]
+#[derive(Clone, Debug, Drop)]
 pub struct CellLine<'a>(pub Line<'a>);
 
 // The lines of a hanging cell, which go on to its end.

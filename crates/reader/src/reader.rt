@@ -34,8 +34,8 @@ impl<'a> Reader<'a> {
         Lines::new(self.sheet, HEAD)
     }
 
-    #[tactic(auto, unfolding(crate::specs::Reading::lines_end))]
     // The names that wait, behind the lines.
+    #[tactic(auto, unfolding(crate::specs::Reading::lines_end))]
     pub fn names(&self) -> Names<'a>
         ensures gives { left read_name result ≡ items read_name (raws (drop (lines_end self.now.sheet.now) self.now.sheet.now)) }
         ensures bytes { result.bytes ≡ self.now.sheet }
@@ -45,8 +45,8 @@ impl<'a> Reader<'a> {
         Names::new(self.sheet, self.lines().end())
     }
 
-    #[tactic(auto, unfolding(crate::specs::Reading::names_end))]
     // The hanging cells, behind the lines and the names.
+    #[tactic(auto, unfolding(crate::specs::Reading::names_end))]
     pub fn overhang(&self) -> Overhang<'a>
         ensures gives { left read_hanging result ≡ items read_hanging (raws (drop (names_end self.now.sheet.now) self.now.sheet.now)) }
         ensures bytes { result.bytes ≡ self.now.sheet }

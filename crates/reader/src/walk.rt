@@ -82,7 +82,7 @@ fn read_at<'a, T: FromField<'a>>(bytes: &'a [u8], at: usize) -> Option<Result<(T
 }
 
 // The fields of a byte list from a place on, each read as a `T`. Behind what is broken it gives nothing more, and stays at its place.
-#[derive(Clone, Copy, Debug, Drop)]
+#[derive(Clone, Debug, Drop)]
 pub struct Walk<'a, T> {
     bytes: &'a [u8],
     at: usize,
