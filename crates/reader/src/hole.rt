@@ -32,7 +32,7 @@ fn read_at<'a>(bytes: &'a [u8], at: usize) -> Result<(Hole<'a>, usize), Broken>
     Ok((Hole { column, piece }, found.next))
 }
 
-// The holes of a border. Behind what is broken it gives nothing more.
+// The holes of a border. Behind what is broken it gives nothing more. A column stands before a hole's field, so a hole is no `FromField`, and this is no `Walk`.
 #[derive(Clone, Debug, Drop)]
 pub struct Holes<'a> {
     bytes: &'a [u8],

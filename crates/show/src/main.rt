@@ -38,7 +38,7 @@ impl From<io::Error> for Failure {
     }
 }
 
-// Writes bytes as they stand, in quotes.
+// Writes bytes as they stand, in quotes: a text need not be UTF-8 here, so it has no Display.
 fn quote(out: &Stdout, bytes: &[u8]) -> io::Result<()> {
     out.write_all(b"\"")?;
     out.write_all(bytes)?;
@@ -112,7 +112,7 @@ fn show_line(out: &Stdout, line: Line<'_>) -> Result<(), Failure> {
     shown
 }
 
-// Writes as many lines as a sheet's head says, and answers the bytes behind them.
+// Writes as many lines as a sheet's head says, and answers the bytes behind them: a `for` over the lines would take the walk, whose place is asked for then.
 #[tactic(auto, using(reader::proofs::Places::place_on))]
 fn show_lines<'a>(out: &Stdout, mut lines: Lines<'a>, count: u16) -> Result<&'a [u8], Failure>
     ensures { IfOk result (λ rest. length rest.now ≤ length lines.entry.bytes.now - lines.entry.at) }
@@ -139,7 +139,10 @@ fn show_names<'a>(out: &Stdout, mut names: Names<'a>) -> io::Result<&'a [u8]>
 
 // Writes a hanging cell: its position, its width and the rows left to it, and its lines.
 fn show_hanging(out: &Stdout, cell: Hanging<'_>) -> Result<(), Failure> {
-    println!(out; "hanging at {}, width {}, rows left {}", cell.position, cell.width, cell.rows)?;
+    println!(out;
+        "hanging at {}, width {}, rows left {}",
+        cell.position, cell.width, cell.rows
+    )?;
     for line in cell.lines {
         let CellLine(line) = line?;
         print!(out; "  ")?;
@@ -187,7 +190,7 @@ fn main(rt: HostRuntime) -> io::Result<()> {
     let mut input = [0u8; 65537];
     let out = rt.stdout();
     let len = read_full(&mut rt.stdin(), &mut input)?;
-    if len == 65537 {
+    if len == input.len() {
         return println!(out; "refused 1");
     }
     match show_sheets(&out, &input[..len]) {
