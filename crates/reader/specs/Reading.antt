@@ -1,257 +1,311 @@
--- What stands in a sheet at a place, and a walk over all of it (document 01, "What changes shape"; requests 2.1 and 2.2).
--- Assumes nothing: these are definitions.
-use Rattle.std.specs.Prelude.{◌≡◌, List, [], ◌∷◌, ℕ, zero, suc, ◌+◌, ◌-◌, ◌*◌, leb, ltb, eqb, length, take, drop, get_or, if◌then◌else◌}
+-- What stands in a sheet, field by field, and what the walks over it give (document 01, "What changes shape"; requests 2.1 and 2.2).
+-- Each walk is a list: items, and at the first field that is none of them what is broken, which ends it. Assumes nothing: these are definitions.
+use Rattle.std.specs.Prelude.{◌≡◌, List, [], ◌∷◌, ℕ, ◌+◌, ◌*◌, ltb, eqb, length, take, drop, map, if◌then◌else◌, Option, Some, None, Result, Ok, Err, MatchOption, MatchResult}
 use Rattle.std.proofs.Math.Option.{some}
-use Rattle.fields.specs.Field.{field_at}
+use Rattle.fields.specs.Field.{Raw, whole, broken, raws, field_at, part}
 use Rattle.fields.specs.Sheet as sheet
 use Rattle.fields.specs.Sheet.{str, fragment}
-use Rattle.fields.specs.declared.field.Field.{Field}
 use Rattle.fields.specs.declared.field.Field.TheVariants as field
 use Rattle.fields.specs.Spans as spans
-use Rattle.fields.specs.Spans.{RenderLine, text, border, Sheet, sheet_of, read_sheet}
-use Rattle.reader.specs.declared.line.Piece.{Piece}
-use Rattle.reader.specs.declared.line.Piece.TheVariants as piece
+use Rattle.fields.specs.Spans.{RawHole, punched, torn, raw_holes, read_sheet}
+use Rattle.reader.specs.declared.walk.Broken.{Broken}
+use Rattle.reader.specs.declared.walk.Found.{Found}
+use Rattle.reader.specs.declared.walk.Walk.{Walk}
+use Rattle.reader.specs.declared.piece.Piece.{Piece}
+use Rattle.reader.specs.declared.piece.Piece.TheVariants as piece
+use Rattle.reader.specs.declared.hole.Hole.{Hole}
+use Rattle.reader.specs.declared.hole.Holes.{Holes}
 use Rattle.reader.specs.declared.line.Line.{Line}
 use Rattle.reader.specs.declared.line.Line.TheVariants as line
-use Rattle.reader.specs.declared.hole.Hole.{Hole}
-use Rattle.reader.specs.declared.hole.Hole.TheVariants as hole
-use Rattle.reader.specs.declared.waiting.Waiting.{Waiting}
-use Rattle.reader.specs.declared.waiting.Waiting.TheVariants as waiting
+use Rattle.reader.specs.declared.line.CellLine.{CellLine}
+use Rattle.reader.specs.declared.waiting.Name.{Name}
 use Rattle.reader.specs.declared.hanging.Hanging.{Hanging}
-use Rattle.reader.specs.declared.hanging.Hanging.TheVariants as hanging
 
--- bytes from one place to another; none where the places are not in the list
-unfoldable pub part_of : ℕ → ℕ → List ℕ → List ℕ
-part_of start end s =
-    if ltb end start then []
-    else if ltb (length s) end then []
-    else take (end - start) (drop start s)
+-- ---- walks
 
--- the number of two bytes at a place
-abbrev pub two_at : ℕ → List ℕ → ℕ
-two_at at s = get_or s at 0 * 256 + get_or s (at + 1) 0
+-- what a letter and a content are: an item, or what is broken; none where the items are over
+abbrev pub Reading : Type 0 → Type 0
+Reading A = ℕ → List ℕ → Option (Result A Broken)
 
--- a field as a piece: S has an annotation and at least one byte of text
-abbrev pub as_piece : List ℕ → Field → Piece
-as_piece s (field.At l start next) =
-    if eqb l 0x46 then piece.Name start next
-    else if eqb l 0x53 then (if ltb (next - start) 2 then piece.Broken else piece.Text (get_or s start 0) (start + 1) next)
-    else piece.Broken
-as_piece s field.Broken = piece.Broken
-as_piece s field.End = piece.End
+-- what is no item
+abbrev pub not_one : {A : Type 0} → Result A Broken
+not_one = Err (record {})
 
--- the piece at a place of a line that ends at a place
-unfoldable pub piece_at : ℕ → ℕ → List ℕ → Piece
-piece_at at end s = if ltb (length s) end then piece.Broken else as_piece s (field_at at (drop at (take end s)))
+-- an item in front of those behind it; there are none behind what is broken, and where the items are over
+abbrev pub item_then : {A : Type 0} → Option (Result A Broken) → List (Result A Broken) → List (Result A Broken)
+item_then None more = []
+item_then (Some (Err e)) more = Err e ∷ []
+item_then (Some (Ok a)) more = Ok a ∷ more
+
+-- what the fields of a byte list are, one after the other
+unfoldable pub items : {A : Type 0} → Reading A → List Raw → List (Result A Broken)
+items read [] = []
+items read (broken ∷ rs) = not_one ∷ []
+items read (whole l c ∷ rs) = item_then (read l c) (items read rs)
+
+-- the bytes of a field: its letter, its length and its content
+abbrev pub field_size : ℕ → List ℕ → ℕ
+field_size l c = 3 + length c
+
+-- the bytes of an item and of those behind it
+abbrev pub size_then : {A : Type 0} → Option (Result A Broken) → ℕ → ℕ
+size_then None n = 0
+size_then (Some (Err e)) n = 0
+size_then (Some (Ok a)) n = n
+
+-- the bytes of the first item, if there is one
+unfoldable pub first_size : {A : Type 0} → Reading A → List Raw → ℕ
+first_size read [] = 0
+first_size read (broken ∷ rs) = 0
+first_size read (whole l c ∷ rs) = size_then (read l c) (field_size l c)
+
+-- the bytes of all of them
+unfoldable pub items_size : {A : Type 0} → Reading A → List Raw → ℕ
+items_size read [] = 0
+items_size read (broken ∷ rs) = 0
+items_size read (whole l c ∷ rs) = size_then (read l c) (field_size l c + items_size read rs)
+
+-- what an item shows of itself
+abbrev pub seen : {A B : Type 0} → (A → B) → Result A Broken → Result B Broken
+seen view (Ok a) = Ok (view a)
+seen view (Err e) = Err e
+
+-- the same where there may be none
+abbrev pub all_seen : {A B : Type 0} → (A → B) → Option (Result A Broken) → Option (Result B Broken)
+all_seen view None = None
+all_seen view (Some r) = Some (seen view r)
+
+-- the fields from a walk's place on
+abbrev pub ahead : {T : Type 0} → Walk T → List Raw
+ahead w = raws (drop w.at w.bytes.now)
+
+-- what a walk still gives
+abbrev pub left : {T A : Type 0} → Reading A → Walk T → List (Result A Broken)
+left read w = if w.is_over then [] else items read (ahead w)
+
+-- where a walk stands behind the next item
+abbrev pub next_place : {T A : Type 0} → Reading A → Walk T → ℕ
+next_place read w = if w.is_over then w.at else w.at + first_size read (ahead w)
+
+-- where a walk stands behind all that it still gives
+abbrev pub end_place : {T A : Type 0} → Reading A → Walk T → ℕ
+end_place read w = if w.is_over then w.at else w.at + items_size read (ahead w)
+
+-- the field at a place, with its content
+pub record FieldIn (s : List ℕ) (at : ℕ) (f : Found) : Type 0 where
+  pub there : field_at at (drop at s) ≡ field.At f.letter (at + 3) f.next
+  pub content : f.content.now ≡ part (at + 3) f.next s
+
+-- what is found at a place
+abbrev pub Finds : List ℕ → ℕ → Option (Result Found Broken) → Type 0
+Finds s at r = MatchOption r (field_at at (drop at s) ≡ field.End) (λ x. MatchResult x (FieldIn s at) (λ e. field_at at (drop at s) ≡ field.Broken))
+
+-- an item at a place, and the place where the next one stands
+pub record ItemIn {A : Type 0} (read : Reading A) (s : List ℕ) (at : ℕ) (a : A) (next : ℕ) : Type 0 where
+  pub first : items read (raws (drop at s)) ≡ Ok a ∷ items read (raws (drop next s))
+  pub place : next ≡ at + first_size read (raws (drop at s))
+
+-- what is read at a place
+abbrev pub Reads : {T A : Type 0} → (T → A) → Reading A → List ℕ → ℕ → Option (Result (T × ℕ) Broken) → Type 0
+Reads view read s at r =
+    MatchOption r ((items read (raws (drop at s)) ≡ []) × (first_size read (raws (drop at s)) ≡ 0))
+    (λ x. MatchResult x (λ p. ItemIn read s at (view p.0) p.1) (λ e. (items read (raws (drop at s)) ≡ not_one ∷ []) × (first_size read (raws (drop at s)) ≡ 0)))
+
+-- ---- pieces
+
+-- a text or a name
+abbrev pub piece_seen : Piece → sheet.Piece
+piece_seen (piece.Text a t) = str a t.now
+piece_seen (piece.Name n) = fragment n.now
+
+-- S has an annotation and at least one byte of text
+abbrev pub read_text : List ℕ → Result sheet.Piece Broken
+read_text [] = not_one
+read_text (a ∷ []) = not_one
+read_text (a ∷ b ∷ t) = Ok (str a (b ∷ t))
+
+-- a field as a piece: a text or a name
+abbrev pub piece_of : ℕ → List ℕ → Result sheet.Piece Broken
+piece_of l c =
+    if eqb l 0x46 then Ok (fragment c)
+    else if eqb l 0x53 then read_text c
+    else not_one
+
+-- the same for a walk: a line's pieces go on to its end
+abbrev pub read_piece : Reading sheet.Piece
+read_piece l c = Some (piece_of l c)
+
+-- the text of a piece; a name has none
+abbrev pub text_of : sheet.Piece → Option (List ℕ)
+text_of (str a t) = Some t
+text_of (fragment n) = None
+
+-- the name of a piece; a text has none
+abbrev pub name_of : sheet.Piece → Option (List ℕ)
+name_of (str a t) = None
+name_of (fragment n) = Some n
+
+-- ---- holes
+
+-- a column and a piece
+abbrev pub hole_seen : Hole → spans.Hole
+hole_seen h = spans.hole h.column (piece_seen h.piece)
+
+-- a column and the piece that stands there
+abbrev pub hole_of : ℕ → Raw → Result spans.Hole Broken
+hole_of column broken = not_one
+hole_of column (whole l c) = seen (spans.hole column) (piece_of l c)
+
+-- the holes of a border, one after the other
+unfoldable pub holes : List RawHole → List (Result spans.Hole Broken)
+holes [] = []
+holes (torn ∷ rs) = not_one ∷ []
+holes (punched column r ∷ rs) = item_then (Some (hole_of column r)) (holes rs)
+
+-- what a walk over holes still gives
+abbrev pub holes_left : Holes → List (Result spans.Hole Broken)
+holes_left w = if w.is_over then [] else holes (raw_holes (drop w.at w.bytes.now))
+
+-- what is read at a place of a border
+abbrev pub ReadsHole : List ℕ → ℕ → Result (Hole × ℕ) Broken → Type 0
+ReadsHole s at r =
+    MatchResult r (λ p. holes (raw_holes (drop at s)) ≡ Ok (hole_seen p.0) ∷ holes (raw_holes (drop p.1 s))) (λ e. holes (raw_holes (drop at s)) ≡ not_one ∷ [])
+
+-- ---- lines
+
+-- a line with what walks over it give: pieces, or a border's annotation, segments and holes
+pub data SeenLine : Type 0 where
+  text : List (Result sheet.Piece Broken) → SeenLine
+  border : ℕ → List ℕ → List (Result spans.Hole Broken) → SeenLine
+
+-- what a line gives
+abbrev pub line_seen : Line → SeenLine
+line_seen (line.Text pieces) = text (left read_piece pieces)
+line_seen (line.Border a segments hs) = border a segments.now (holes_left hs)
 
 -- B: an annotation, then segments; there are no holes
-unfoldable pub plain_border : ℕ → ℕ → List ℕ → Line
-plain_border start end s =
-    if leb end start then line.Broken
-    else line.Border (get_or s start 0) (start + 1) (end - (start + 1)) end end
+abbrev pub plain_border : List ℕ → Result SeenLine Broken
+plain_border [] = not_one
+plain_border (a ∷ segments) = Ok (border a segments [])
 
 -- G: an annotation, the number of segments in two bytes, the segments, then the holes, of which there are some
-unfoldable pub holed_border : ℕ → ℕ → List ℕ → Line
-holed_border start end s =
-    if ltb (end - start) 3 then line.Broken
-    else if leb (end - (start + 3)) (two_at (start + 1) s) then line.Broken
-    else line.Border (get_or s start 0) (start + 3) (two_at (start + 1) s) (start + 3 + two_at (start + 1) s) end
+abbrev pub holed_border : List ℕ → Result SeenLine Broken
+holed_border [] = not_one
+holed_border (a ∷ []) = not_one
+holed_border (a ∷ h ∷ []) = not_one
+holed_border (a ∷ h ∷ o ∷ rest) =
+    if ltb (h * 256 + o) (length rest)
+    then Ok (border a (take (h * 256 + o) rest) (holes (raw_holes (drop (h * 256 + o) rest))))
+    else not_one
 
--- a field at a place as a line: a text with its first piece, or a border with its annotation, the place of its segments and their number, and the places where
--- its holes begin and end; at an F or a V the lines are over
-abbrev pub as_line : ℕ → List ℕ → Field → Line
-as_line at s (field.At l start next) =
-    if eqb l 0x4C then line.Text (piece_at start next s) next
-    else if eqb l 0x42 then plain_border start next s
-    else if eqb l 0x47 then holed_border start next s
-    else if eqb l 0x46 then line.Names at
-    else if eqb l 0x56 then line.Overhang at
-    else line.Broken
-as_line at s field.Broken = line.Broken
-as_line at s field.End = line.End
+-- a field as a line: a text with its pieces, or a border; at an F or a V the lines are over
+abbrev pub read_line : Reading SeenLine
+read_line l c =
+    if eqb l 0x4C then Some (Ok (text (items read_piece (raws c))))
+    else if eqb l 0x42 then Some (plain_border c)
+    else if eqb l 0x47 then Some (holed_border c)
+    else if eqb l 0x46 then None
+    else if eqb l 0x56 then None
+    else Some not_one
 
--- the line at a place
-unfoldable pub line_at : ℕ → List ℕ → Line
-line_at at s = as_line at s (field_at at (drop at s))
+-- a hanging cell's line
+abbrev pub cell_line_seen : CellLine → SeenLine
+cell_line_seen l = line_seen l.0
 
--- a line as it stands in a hanging cell, on which no names wait
-abbrev pub in_cell : Line → Line
-in_cell (line.Text p end) = line.Text p end
-in_cell (line.Border a place n holes end) = line.Border a place n holes end
-in_cell (line.Names place) = line.Broken
-in_cell (line.Overhang place) = line.Overhang place
-in_cell line.Broken = line.Broken
-in_cell line.End = line.End
+-- a line as it stands in a hanging cell, on which no names wait and from which no cells hang
+abbrev pub in_cell : Option (Result SeenLine Broken) → Result SeenLine Broken
+in_cell None = not_one
+in_cell (Some r) = r
 
--- the line at a place of a hanging cell that ends at a place
-unfoldable pub line_in : ℕ → ℕ → List ℕ → Line
-line_in at end s = if ltb (length s) end then line.Broken else in_cell (line_at at (take end s))
+-- a field as a line of a hanging cell, whose lines go on to its end
+abbrev pub read_cell_line : Reading SeenLine
+read_cell_line l c = Some (in_cell (read_line l c))
 
--- where a line that stands at a place ends
-abbrev pub end_of : ℕ → Line → ℕ
-end_of at (line.Text p end) = end
-end_of at (line.Border a place n holes end) = end
-end_of at (line.Names place) = at
-end_of at (line.Overhang place) = at
-end_of at line.Broken = at
-end_of at line.End = at
+-- ---- names that wait
 
--- the place where the line at a place ends, which is where the next one stands; the place itself where there is no line
-unfoldable pub line_end : ℕ → List ℕ → ℕ
-line_end at s = end_of at (line_at at s)
+-- a name's bytes
+abbrev pub name_seen : Name → List ℕ
+name_seen n = n.0.now
 
--- a column and the piece that stands there as a hole
-abbrev pub as_hole : ℕ → Piece → Hole
-as_hole column (piece.Text a start end) = hole.At column (piece.Text a start end) end
-as_hole column (piece.Name start end) = hole.At column (piece.Name start end) end
-as_hole column piece.Broken = hole.Broken
-as_hole column piece.End = hole.Broken
+-- a field as a name that waits; at a V the names are over
+abbrev pub read_name : Reading (List ℕ)
+read_name l c =
+    if eqb l 0x46 then Some (Ok c)
+    else if eqb l 0x56 then None
+    else Some not_one
 
--- the hole at a place of a border that ends at a place: its column in two bytes, then its piece
-unfoldable pub hole_at : ℕ → ℕ → List ℕ → Hole
-hole_at at end s =
-    if ltb (length s) end then hole.Broken
-    else if leb end at then hole.End
-    else if ltb (end - at) 2 then hole.Broken
-    else as_hole (two_at at s) (piece_at (at + 2) end s)
+-- ---- hanging cells
 
--- a field at a place as a name that waits; at a V the names are over
-abbrev pub as_waiting : ℕ → Field → Waiting
-as_waiting at (field.At l start next) =
-    if eqb l 0x46 then waiting.Name start next
-    else if eqb l 0x56 then waiting.Overhang at
-    else waiting.Broken
-as_waiting at field.Broken = waiting.Broken
-as_waiting at field.End = waiting.End
+-- a hanging cell with what a walk over its lines gives
+pub record SeenHanging : Type 0 where
+  pub position : ℕ
+  pub width : ℕ
+  pub rows : ℕ
+  pub lines : List (Result SeenLine Broken)
 
--- the name that waits at a place
-unfoldable pub waiting_at : ℕ → List ℕ → Waiting
-waiting_at at s = as_waiting at (field_at at (drop at s))
+-- what a hanging cell gives
+abbrev pub hanging_seen : Hanging → SeenHanging
+hanging_seen h = record { position = h.position; width = h.width; rows = h.rows; lines = left read_cell_line h.lines }
 
--- where a name that waits at a place ends
-abbrev pub wait_end : ℕ → Waiting → ℕ
-wait_end at (waiting.Name start end) = end
-wait_end at (waiting.Overhang place) = at
-wait_end at waiting.Broken = at
-wait_end at waiting.End = at
+-- V: a position in two bytes, a width, the rows left, then lines
+abbrev pub hanging_of : List ℕ → Result SeenHanging Broken
+hanging_of [] = not_one
+hanging_of (p ∷ []) = not_one
+hanging_of (p ∷ q ∷ []) = not_one
+hanging_of (p ∷ q ∷ w ∷ []) = not_one
+hanging_of (p ∷ q ∷ w ∷ r ∷ ls) = Ok (record { position = p * 256 + q; width = w; rows = r; lines = items read_cell_line (raws ls) })
 
--- the place where the name that waits at a place ends, which is where the next one stands; the place itself where no name waits
-unfoldable pub name_end : ℕ → List ℕ → ℕ
-name_end at s = wait_end at (waiting_at at s)
+-- a field as a hanging cell; they go on to the end of the sheet
+abbrev pub read_hanging : Reading SeenHanging
+read_hanging l c = Some (if eqb l 0x56 then hanging_of c else not_one)
 
--- a field as a hanging cell: its position in two bytes, its width, the rows left, then its lines
-abbrev pub as_hanging : List ℕ → Field → Hanging
-as_hanging s (field.At l start next) =
-    if eqb l 0x56
-    then (if ltb (next - start) 4 then hanging.Broken
-    else hanging.At (two_at start s) (get_or s (start + 2) 0) (get_or s (start + 3) 0) (start + 4) next)
-    else hanging.Broken
-as_hanging s field.Broken = hanging.Broken
-as_hanging s field.End = hanging.End
+-- ---- the sheet
 
--- the hanging cell at a place
-unfoldable pub hanging_at : ℕ → List ℕ → Hanging
-hanging_at at s = as_hanging s (field_at at (drop at s))
+-- the fields of a sheet behind its head's five bytes
+abbrev pub from_lines : List ℕ → List Raw
+from_lines s = raws (drop 5 s)
 
--- the text of a piece; that of a name is empty
-unfoldable pub text_of : Piece → List ℕ → List ℕ
-text_of (piece.Text a start end) s = part_of start end s
-text_of (piece.Name start end) s = []
-text_of piece.Broken s = []
-text_of piece.End s = []
+-- the place behind all lines of a sheet, where the names that wait begin
+unfoldable pub lines_end : List ℕ → ℕ
+lines_end s = 5 + items_size read_line (from_lines s)
 
--- the name of a piece; that of a text is empty
-unfoldable pub name_of : Piece → List ℕ → List ℕ
-name_of (piece.Text a start end) s = []
-name_of (piece.Name start end) s = part_of start end s
-name_of piece.Broken s = []
-name_of piece.End s = []
+-- the place behind all its lines and names, where the hanging cells begin
+unfoldable pub names_end : List ℕ → ℕ
+names_end s = lines_end s + items_size read_name (raws (drop (lines_end s) s))
 
--- ---- a walk, as a reader makes it
+-- all that the walks over a sheet give: its lines, the names that wait on it, and the cells that hang from it
+pub record Walked : Type 0 where
+  pub lines : List (Result SeenLine Broken)
+  pub names : List (Result (List ℕ) Broken)
+  pub overhang : List (Result SeenHanging Broken)
 
--- a piece and those after it, in a line that ends at a place; `fuel` bounds their number
-unfoldable pub pieces_from : ℕ → Piece → ℕ → List ℕ → List sheet.Piece
-pieces_from zero p end s = []
-pieces_from (suc fuel) (piece.Text a start next) end s = str a (part_of start next s) ∷ pieces_from fuel (piece_at next end s) end s
-pieces_from (suc fuel) (piece.Name start next) end s = fragment (part_of start next s) ∷ pieces_from fuel (piece_at next end s) end s
-pieces_from (suc fuel) piece.Broken end s = []
-pieces_from (suc fuel) piece.End end s = []
-
--- a hole in front of those that stand where it ends; what is no hole, and the end, have none after them
-abbrev pub hole_then : List ℕ → Hole → (ℕ → List spans.Hole) → List spans.Hole
-hole_then s (hole.At column (piece.Text a start end) next) more = spans.hole column (str a (part_of start end s)) ∷ more next
-hole_then s (hole.At column (piece.Name start end) next) more = spans.hole column (fragment (part_of start end s)) ∷ more next
-hole_then s (hole.At column piece.Broken next) more = []
-hole_then s (hole.At column piece.End next) more = []
-hole_then s hole.Broken more = []
-hole_then s hole.End more = []
-
--- the holes from a place on, in a border that ends at a place
-unfoldable pub holes_from : ℕ → ℕ → ℕ → List ℕ → List spans.Hole
-holes_from zero at end s = []
-holes_from (suc fuel) at end s = hole_then s (hole_at at end s) (λ next. holes_from fuel next end s)
-
--- a line in front of those after it; what is no line, a name that waits, a hanging cell and the end have none after them
-abbrev pub line_then : List ℕ → Line → List RenderLine → List RenderLine
-line_then s (line.Text p end) ls = text (pieces_from (length s) p end s) ∷ ls
-line_then s (line.Border a place n holes end) ls = border a (part_of place (place + n) s) (holes_from (length s) holes end s) ∷ ls
-line_then s (line.Names place) ls = []
-line_then s (line.Overhang place) ls = []
-line_then s line.Broken ls = []
-line_then s line.End ls = []
-
--- the lines from a place on, each where the one before it ends
-unfoldable pub lines_from : ℕ → ℕ → List ℕ → List RenderLine
-lines_from zero at s = []
-lines_from (suc fuel) at s = line_then s (line_at at s) (lines_from fuel (line_end at s) s)
-
--- the place behind them, where the names that wait begin
-unfoldable pub lines_end : ℕ → ℕ → List ℕ → ℕ
-lines_end zero at s = at
-lines_end (suc fuel) at s = lines_end fuel (line_end at s) s
-
--- a name in front of those that stand where it ends; what is no name, a hanging cell and the end have none after them
-abbrev pub name_then : List ℕ → Waiting → List (List ℕ) → List (List ℕ)
-name_then s (waiting.Name start end) ns = part_of start end s ∷ ns
-name_then s (waiting.Overhang place) ns = []
-name_then s waiting.Broken ns = []
-name_then s waiting.End ns = []
-
--- the names that wait from a place on, each where the one before it ends
-unfoldable pub names_from : ℕ → ℕ → List ℕ → List (List ℕ)
-names_from zero at s = []
-names_from (suc fuel) at s = name_then s (waiting_at at s) (names_from fuel (name_end at s) s)
-
--- the place behind them, where the hanging cells begin
-unfoldable pub names_end : ℕ → ℕ → List ℕ → ℕ
-names_end zero at s = at
-names_end (suc fuel) at s = names_end fuel (name_end at s) s
-
--- a hanging cell in front of those that stand where it ends; its lines are those of the bytes up to its end
-abbrev pub hanging_then : List ℕ → Hanging → (ℕ → List spans.Hanging) → List spans.Hanging
-hanging_then s (hanging.At position width rows lines end) more =
-    spans.hanging position width rows (lines_from (length s) lines (take end s)) ∷ more end
-hanging_then s hanging.Broken more = []
-hanging_then s hanging.End more = []
-
--- the hanging cells from a place on
-unfoldable pub hangings_from : ℕ → ℕ → List ℕ → List spans.Hanging
-hangings_from zero at s = []
-hangings_from (suc fuel) at s = hanging_then s (hanging_at at s) (λ next. hangings_from fuel next s)
-
--- the place behind all lines of a sheet
-abbrev pub all_lines_end : List ℕ → ℕ
-all_lines_end s = lines_end (length s) 5 s
-
--- the place behind all its lines and names
-abbrev pub all_names_end : List ℕ → ℕ
-all_names_end s = names_end (length s) (all_lines_end s) s
-
--- all lines of a sheet, all names that wait on it, and all cells that hang from it
-unfoldable pub walked : List ℕ → Sheet
+unfoldable pub walked : List ℕ → Walked
 walked s =
-    sheet_of (lines_from (length s) 5 s) (names_from (length s) (all_lines_end s) s) (hangings_from (length s) (all_names_end s) s)
+    record {
+      lines = items read_line (from_lines s);
+      names = items read_name (raws (drop (lines_end s) s));
+      overhang = items read_hanging (raws (drop (names_end s) s));
+    }
 
--- a walk over a sheet that passes refusal 1 gives back its lines, pieces, holes, waiting names and hanging cells, in order (proved as `walks_back` in proofs/Walked.antt)
+-- a line of which nothing is broken
+abbrev pub whole_line : spans.RenderLine → SeenLine
+whole_line (spans.text ps) = text (map Ok ps)
+whole_line (spans.border a segments hs) = border a segments (map Ok hs)
+
+-- a hanging cell of which nothing is broken
+abbrev pub whole_hanging : spans.Hanging → SeenHanging
+whole_hanging h = record { position = h.pos; width = h.width; rows = h.rows; lines = map (λ l. Ok (whole_line l)) h.lines }
+
+-- a sheet of which nothing is broken
+abbrev pub whole_sheet : spans.Sheet → Walked
+whole_sheet t =
+    record {
+      lines = map (λ l. Ok (whole_line l)) t.lines;
+      names = map Ok t.names;
+      overhang = map (λ h. Ok (whole_hanging h)) t.overhang;
+    }
+
+-- the walks over a sheet that passes refusal 1 give its lines, pieces, holes, waiting names and hanging cells, in order, and nothing that is broken
+-- (proved as `walks_back` in proofs/Walked.antt)
 abbrev pub WalksBack : Type 0
-WalksBack = (s : List ℕ) (t : Sheet) → read_sheet s ≡ some t → walked s ≡ t
+WalksBack = (s : List ℕ) (t : spans.Sheet) → read_sheet s ≡ some t → walked s ≡ whole_sheet t

@@ -1,56 +1,90 @@
-// The holes of a border by their places. The first one stands where the border's holes begin; the next one where a hole ends.
-ghost use Rattle.std.specs.Prelude.{◌≡◌};
-ghost use Rattle.reader.specs.Reading.{hole_at};
+// The holes of a border.
+ghost use Rattle.std.specs.Prelude.{◌≡◌, ◌<◌, [], drop, length};
+ghost use Rattle.std.specs.Iterator.{YieldsFirstBy, item_count};
+ghost use Rattle.fields.specs.Spans.{raw_holes};
+ghost use Rattle.reader.specs.Reading.{hole_seen, holes, holes_left, seen, ReadsHole};
 
-use crate::line::{Piece, piece_at};
-use crate::two::two_at;
+use crate::piece::Piece;
+use crate::walk::{Broken, find};
 
-// A hole: its column, the piece that stands there and the place where it ends, where the next hole stands; the end of the border; or what is no hole.
-#[derive(Clone, Copy)]
-pub enum Hole {
-    At {
-        column: usize,
-        piece: Piece,
-        end: usize,
-    },
-    Broken,
-    End,
+// A hole: its column, and the piece that stands there.
+#[derive(Clone, Copy, Debug, PartialEq, Eq, Drop)]
+pub struct Hole<'a> {
+    pub column: u16,
+    pub piece: Piece<'a>,
 }
 
-// The hole at a place of a border that ends at a place.
-pub fn hole_at(sheet: &[u8], at: usize, end: usize) -> Hole
-    ensures { result ≡ hole_at at end sheet.now }
+// The hole at a place, and the place where the next one stands.
+#[tactic(auto, using(crate::proofs::Places::hole_short, crate::proofs::Places::hole_bare, crate::proofs::Places::hole_broken, crate::proofs::Places::hole_no_piece, crate::proofs::Places::hole_in))]
+fn read_at<'a>(bytes: &'a [u8], at: usize) -> Result<(Hole<'a>, usize), Broken>
+    requires { at < length bytes.now }
+    ensures { ReadsHole bytes.now at result }
 {
-    if sheet.len() < end {
-        return Hole::Broken;
+    if bytes.len() - at < 2 {
+        return Err(Broken);
     }
-    if end <= at {
-        return Hole::End;
+    let column = u16::from_be_bytes([bytes[at], bytes[at + 1]]);
+    let Some(found) = find(bytes, at + 2) else {
+        return Err(Broken);
+    };
+    let found = found?;
+    let piece = Piece::read(found.letter, found.content)?;
+    Ok((Hole { column, piece }, found.next))
+}
+
+// The holes of a border. Behind what is broken it gives nothing more. A column stands before a hole's field, so a hole is no `FromField`, and this is no `Walk`.
+#[derive(Clone, Debug, Drop)]
+pub struct Holes<'a> {
+    bytes: &'a [u8],
+    at: usize,
+    is_over: bool,
+}
+
+impl<'a> Holes<'a> {
+    // A walk over no holes.
+    pub fn none() -> Self
+        ensures { holes_left result ≡ [] }
+    {
+        Holes {
+            bytes: &[],
+            at: 0,
+            is_over: true,
+        }
     }
-    if end - at < 2 {
-        return Hole::Broken;
+
+    // A walk over all holes from a place on.
+    pub fn new(bytes: &'a [u8], at: usize) -> Self
+        ensures { holes_left result ≡ holes (raw_holes (drop at bytes.now)) }
+    {
+        Holes {
+            bytes,
+            at,
+            is_over: false,
+        }
     }
-    let column = two_at(sheet, at);
-    let piece = piece_at(sheet, at + 2, end);
-    match piece {
-        Piece::Text {
-            annotation: _,
-            start: _,
-            end: next,
-        } => Hole::At {
-            column,
-            piece,
-            end: next,
-        },
-        Piece::Name {
-            start: _,
-            end: next,
-        } => Hole::At {
-            column,
-            piece,
-            end: next,
-        },
-        Piece::Broken => Hole::Broken,
-        Piece::End => Hole::Broken,
+}
+
+impl<'a> Iterator for Holes<'a> {
+    type Item = Result<Hole<'a>, Broken>;
+
+    ghost next_gives = { YieldsFirstBy (seen hole_seen) holes_left };
+
+    ghost remaining = { item_count holes_left };
+
+    #[tactic(auto, using(crate::proofs::Places::holes_over))]
+    fn next(&mut self) -> Option<Result<Hole<'a>, Broken>> {
+        if self.is_over || self.bytes.len() <= self.at {
+            return None;
+        }
+        match read_at(self.bytes, self.at) {
+            Ok((hole, next)) => {
+                self.at = next;
+                Some(Ok(hole))
+            }
+            Err(broken) => {
+                self.is_over = true;
+                Some(Err(broken))
+            }
+        }
     }
 }

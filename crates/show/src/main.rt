@@ -6,332 +6,181 @@
 // of more than 65,536 bytes prints `refused 1`.
 #![tactic(auto)]
 
-ghost use Rattle.std.specs.Prelude.{◌≤◌, length, IfOk};
+ghost use Rattle.std.specs.Prelude.{◌≤◌, ◌<◌, ◌-◌, length, IfOk};
 
-use fields::field::{Field, field_at, wide};
 use input::read_full;
-use reader::hanging::{Hanging, hanging_at};
-use reader::hole::Hole;
-use reader::line::{Line, Piece, line_end, line_in, name_of, part_of, text_of};
-use reader::reader::{first_line, hole_in, line_after, piece_in};
-use reader::waiting::{Waiting, waiting_at};
+use reader::hanging::{Hanging, Overhang};
+use reader::hole::Holes;
+use reader::line::{CellLine, Line, Lines};
+use reader::piece::{Piece, Pieces};
+use reader::reader::Reader;
+use reader::waiting::{Name, Names};
+use reader::walk::Broken;
 use std::io;
 use std::io::Stdout;
 
-// Writes bytes.
-fn say(out: &Stdout, bytes: &[u8]) -> io::Result<()> {
-    out.write_all(bytes)
+// Why a run ends early.
+#[derive(Drop)]
+enum Failure {
+    Sheet(Broken),
+    Output(io::Error),
 }
 
-// Writes a number.
-fn say_number(out: &Stdout, n: usize) -> io::Result<()> {
-    print!(out; "{n}")
+impl From<Broken> for Failure {
+    fn from(broken: Broken) -> Self {
+        Failure::Sheet(broken)
+    }
 }
 
-// Writes bytes as they stand, in quotes.
+impl From<io::Error> for Failure {
+    fn from(error: io::Error) -> Self {
+        Failure::Output(error)
+    }
+}
+
+// Writes bytes as they stand, in quotes: a text need not be UTF-8 here, so it has no Display.
 fn quote(out: &Stdout, bytes: &[u8]) -> io::Result<()> {
-    say(out, b"\"")?;
-    say(out, bytes)?;
-    say(out, b"\"")
-}
-
-// Writes a text with its annotation.
-fn show_text(out: &Stdout, annotation: u8, text: &[u8]) -> io::Result<()> {
-    say(out, b"  ")?;
-    say_number(out, wide(annotation))?;
-    say(out, b" ")?;
-    quote(out, text)
+    out.write_all(b"\"")?;
+    out.write_all(bytes)?;
+    out.write_all(b"\"")
 }
 
 // Writes a name.
 fn show_name(out: &Stdout, name: &[u8]) -> io::Result<()> {
-    say(out, b"  name ")?;
+    print!(out; "  name ")?;
     quote(out, name)
 }
 
-// Writes a piece.
-fn show_piece(out: &Stdout, sheet: &[u8], piece: Piece) -> io::Result<()> {
+// Writes a piece: a text with its annotation, or a name.
+fn show_piece(out: &Stdout, piece: Piece<'_>) -> io::Result<()> {
     match piece {
-        Piece::Text {
-            annotation,
-            start: _,
-            end: _,
-        } => show_text(out, annotation, text_of(sheet, piece)),
-        Piece::Name { start: _, end: _ } => show_name(out, name_of(sheet, piece)),
-        Piece::Broken => Ok(()),
-        Piece::End => Ok(()),
-    }
-}
-
-// Writes the pieces of a line that ends at a place, from its first on, and says whether they reach the end.
-fn show_pieces(out: &Stdout, sheet: &[u8], first: Piece, end: usize) -> io::Result<bool> {
-    let mut piece = first;
-    loop {
-        match piece {
-            Piece::Text {
-                annotation: _,
-                start: _,
-                end: next,
-            } => {
-                show_piece(out, sheet, piece)?;
-                piece = piece_in(sheet, next, end);
-            }
-            Piece::Name {
-                start: _,
-                end: next,
-            } => {
-                show_piece(out, sheet, piece)?;
-                piece = piece_in(sheet, next, end);
-            }
-            Piece::Broken => {
-                return Ok(false);
-            }
-            Piece::End => {
-                return Ok(true);
-            }
+        Piece::Text { annotation, text } => {
+            print!(out; "  {annotation} ")?;
+            quote(out, text)
         }
+        Piece::Name(name) => show_name(out, name),
     }
 }
 
-// Writes a border's annotation and its segments, two spaces before the first.
-fn show_segments(out: &Stdout, annotation: u8, segments: &[u8]) -> io::Result<()> {
-    say(out, b"border ")?;
-    say_number(out, wide(annotation))?;
-    if 0 < segments.len() {
-        say(out, b" ")?;
-    }
-    let mut i: usize = 0;
-    while i < segments.len() {
-        say(out, b" ")?;
-        say_number(out, wide(segments[i]))?;
-        i += 1;
+// Writes the pieces of a line.
+fn show_pieces(out: &Stdout, pieces: Pieces<'_>) -> Result<(), Failure> {
+    for piece in pieces {
+        show_piece(out, piece?)?;
     }
     Ok(())
 }
 
-// Writes the holes of a border that ends at a place, from a place on, and says whether they reach the end.
-fn show_holes(out: &Stdout, sheet: &[u8], at: usize, end: usize) -> io::Result<bool> {
-    let mut hole = hole_in(sheet, at, end);
-    loop {
-        match hole {
-            Hole::At {
-                column,
-                piece,
-                end: next,
-            } => {
-                say(out, b"  hole ")?;
-                say_number(out, column)?;
-                show_piece(out, sheet, piece)?;
-                hole = hole_in(sheet, next, end);
-            }
-            Hole::Broken => {
-                return Ok(false);
-            }
-            Hole::End => {
-                return Ok(true);
-            }
-        }
+// Writes a border's annotation and its segments, two spaces before the first.
+fn show_segments(out: &Stdout, annotation: u8, segments: &[u8]) -> io::Result<()> {
+    print!(out; "border {annotation}")?;
+    if !segments.is_empty() {
+        print!(out; " ")?;
     }
+    for segment in segments {
+        print!(out; " {segment}")?;
+    }
+    Ok(())
 }
 
-// Writes a line of text, and says whether it is whole.
-fn show_text_line(out: &Stdout, sheet: &[u8], first: Piece, end: usize) -> io::Result<bool> {
-    say(out, b"text")?;
-    let whole = show_pieces(out, sheet, first, end)?;
-    say(out, b"\n")?;
-    Ok(whole)
+// Writes the holes of a border.
+fn show_holes(out: &Stdout, holes: Holes<'_>) -> Result<(), Failure> {
+    for hole in holes {
+        let hole = hole?;
+        print!(out; "  hole {}", hole.column)?;
+        show_piece(out, hole.piece)?;
+    }
+    Ok(())
 }
 
-// Writes a border with its holes, and says whether it is whole.
-fn show_border(
-    out: &Stdout,
-    sheet: &[u8],
-    annotation: u8,
-    place: usize,
-    holes: usize,
-    end: usize,
-) -> io::Result<bool> {
-    show_segments(out, annotation, part_of(sheet, place, holes))?;
-    let whole = show_holes(out, sheet, holes, end)?;
-    say(out, b"\n")?;
-    Ok(whole)
-}
-
-// Writes a line, and says whether it is whole.
-fn show_line(out: &Stdout, sheet: &[u8], line: Line) -> io::Result<bool> {
-    match line {
-        Line::Text { first, end } => show_text_line(out, sheet, first, end),
+// Writes a line, whose end is written too where what stands on it is broken.
+fn show_line(out: &Stdout, line: Line<'_>) -> Result<(), Failure> {
+    let shown = match line {
+        Line::Text(pieces) => {
+            print!(out; "text")?;
+            show_pieces(out, pieces)
+        }
         Line::Border {
             annotation,
-            place,
-            length: _,
+            segments,
             holes,
-            end,
-        } => show_border(out, sheet, annotation, place, holes, end),
-        Line::Names { place: _ } => Ok(false),
-        Line::Overhang { place: _ } => Ok(false),
-        Line::Broken => Ok(false),
-        Line::End => Ok(false),
-    }
-}
-
-// Writes as many lines as a sheet's head says, and answers the place behind them, or 0 where one is broken.
-fn show_lines(out: &Stdout, sheet: &[u8], count: usize) -> io::Result<usize>
-    requires { 5 ≤ length sheet.now }
-    ensures { IfOk result (λ n. n ≤ length sheet.now) }
-{
-    let mut at: usize = 5;
-    let mut line = first_line(sheet);
-    let mut left = count;
-    while 0 < left {
-        if !show_line(out, sheet, line)? {
-            return Ok(0);
+        } => {
+            show_segments(out, annotation, segments)?;
+            show_holes(out, holes)
         }
-        line = line_after(sheet, at);
-        at = line_end(sheet, at);
-        left -= 1;
-    }
-    Ok(at)
-}
-
-// Writes the names that wait from a place on, and answers the place behind them.
-fn show_names(out: &Stdout, sheet: &[u8], at: usize) -> io::Result<usize>
-    requires { at ≤ length sheet.now }
-    ensures { IfOk result (λ n. n ≤ length sheet.now) }
-{
-    let mut place = at;
-    loop {
-        let name = waiting_at(sheet, place);
-        let Waiting::Name { start, end } = name else {
-            return Ok(place);
-        };
-        say(out, b"waits")?;
-        show_name(out, part_of(sheet, start, end))?;
-        say(out, b"\n")?;
-        place = end;
-    }
-}
-
-// Writes the lines of a hanging cell that ends at a place, from a place on, and says whether they reach the end.
-fn show_cell_lines(out: &Stdout, sheet: &[u8], at: usize, end: usize) -> io::Result<bool> {
-    let mut line = line_in(sheet, at, end);
-    loop {
-        let next = match line {
-            Line::Text {
-                first: _,
-                end: next,
-            } => next,
-            Line::Border {
-                annotation: _,
-                place: _,
-                length: _,
-                holes: _,
-                end: next,
-            } => next,
-            Line::Names { place: _ } => {
-                return Ok(false);
-            }
-            Line::Overhang { place: _ } => {
-                return Ok(false);
-            }
-            Line::Broken => {
-                return Ok(false);
-            }
-            Line::End => {
-                return Ok(true);
-            }
-        };
-        say(out, b"  ")?;
-        if !show_line(out, sheet, line)? {
-            return Ok(false);
-        }
-        line = line_in(sheet, next, end);
-    }
-}
-
-// Writes the position of a hanging cell, its width and the rows left to it.
-fn show_cell_head(out: &Stdout, position: usize, width: u8, rows: u8) -> io::Result<()> {
-    say(out, b"hanging at ")?;
-    say_number(out, position)?;
-    say(out, b", width ")?;
-    say_number(out, wide(width))?;
-    say(out, b", rows left ")?;
-    say_number(out, wide(rows))?;
-    say(out, b"\n")
-}
-
-// Writes the hanging cells from a place on, and answers the place behind them, or 0 where a line of one is broken.
-fn show_overhang(out: &Stdout, sheet: &[u8], at: usize) -> io::Result<usize>
-    requires { at ≤ length sheet.now }
-    ensures { IfOk result (λ n. n ≤ length sheet.now) }
-{
-    let mut place = at;
-    loop {
-        let cell = hanging_at(sheet, place);
-        match cell {
-            Hanging::At {
-                position,
-                width,
-                rows,
-                lines,
-                end,
-            } => {
-                show_cell_head(out, position, width, rows)?;
-                if !show_cell_lines(out, sheet, lines, end)? {
-                    return Ok(0);
-                }
-                place = end;
-            }
-            Hanging::Broken => {
-                return Ok(place);
-            }
-            Hanging::End => {
-                return Ok(place);
-            }
-        }
-    }
-}
-
-// Writes the first sheet of a byte list, and answers its length, or 0 where it is broken.
-fn show_sheet(out: &Stdout, bytes: &[u8]) -> io::Result<usize>
-    ensures { IfOk result (λ n. n ≤ length bytes.now) }
-{
-    if bytes.len() < 5 {
-        return Ok(0);
-    }
-    let f = field_at(bytes, 0);
-    let Field::At {
-        letter,
-        start: _,
-        next,
-    } = f
-    else {
-        return Ok(0);
     };
-    if letter != b'H' || next != 5 {
-        return Ok(0);
-    }
-    let count = wide(bytes[3]) * 256 + wide(bytes[4]);
-    say(out, b"sheet of ")?;
-    say_number(out, count)?;
-    say(out, b" lines\n")?;
-    let end = show_lines(out, bytes, count)?;
-    if end == 0 {
-        return Ok(0);
-    }
-    let names = show_names(out, bytes, end)?;
-    show_overhang(out, bytes, names)
+    println!(out; "")?;
+    shown
 }
 
-// Writes one sheet after the other, up to the end or to the first that is broken.
-fn show_sheets(out: &Stdout, input: &[u8]) -> io::Result<()> {
-    let mut at: usize = 0;
-    while at < input.len() {
-        let len = show_sheet(out, &input[at..])?;
-        if len == 0 {
-            return say(out, b"broken\n");
-        }
-        at += len;
+// Writes as many lines as a sheet's head says, and answers the bytes behind them: a `for` over the lines would take the walk, whose place is asked for then.
+#[tactic(auto, using(reader::proofs::Places::place_on))]
+fn show_lines<'a>(out: &Stdout, mut lines: Lines<'a>, count: u16) -> Result<&'a [u8], Failure>
+    ensures { IfOk result (λ rest. length rest.now ≤ length lines.entry.bytes.now - lines.entry.at) }
+{
+    for _ in 0..count {
+        let line = lines.step().ok_or(Broken)??;
+        show_line(out, line)?;
+    }
+    Ok(lines.rest())
+}
+
+// Writes the names that wait, and answers the bytes behind them.
+#[tactic(auto, using(reader::proofs::Places::place_on))]
+fn show_names<'a>(out: &Stdout, mut names: Names<'a>) -> io::Result<&'a [u8]>
+    ensures { IfOk result (λ rest. length rest.now ≤ length names.entry.bytes.now - names.entry.at) }
+{
+    while let Some(Ok(Name(name))) = names.step() {
+        print!(out; "waits")?;
+        show_name(out, name)?;
+        println!(out; "")?;
+    }
+    Ok(names.rest())
+}
+
+// Writes a hanging cell: its position, its width and the rows left to it, and its lines.
+fn show_hanging(out: &Stdout, cell: Hanging<'_>) -> Result<(), Failure> {
+    println!(out;
+        "hanging at {}, width {}, rows left {}",
+        cell.position, cell.width, cell.rows
+    )?;
+    for line in cell.lines {
+        let CellLine(line) = line?;
+        print!(out; "  ")?;
+        show_line(out, line)?;
+    }
+    Ok(())
+}
+
+// Writes the hanging cells, and answers the bytes behind them.
+#[tactic(auto, using(reader::proofs::Places::place_on))]
+fn show_overhang<'a>(out: &Stdout, mut overhang: Overhang<'a>) -> Result<&'a [u8], Failure>
+    ensures { IfOk result (λ rest. length rest.now ≤ length overhang.entry.bytes.now - overhang.entry.at) }
+{
+    while let Some(Ok(cell)) = overhang.step() {
+        show_hanging(out, cell)?;
+    }
+    Ok(overhang.rest())
+}
+
+// Writes the first sheet of a byte list, and answers the bytes behind it.
+fn show_sheet<'a>(out: &Stdout, bytes: &'a [u8]) -> Result<&'a [u8], Failure>
+    ensures { IfOk result (λ rest. length rest.now < length bytes.now) }
+{
+    let [b'H', 0, 2, high, low, ..] = bytes else {
+        return Err(Failure::Sheet(Broken));
+    };
+    let count = u16::from_be_bytes([*high, *low]);
+    println!(out; "sheet of {count} lines")?;
+    let behind = show_lines(out, Reader::new(bytes).lines(), count)?;
+    let behind = show_names(out, Names::new(behind, 0))?;
+    show_overhang(out, Overhang::new(behind, 0))
+}
+
+// Writes one sheet after the other.
+fn show_sheets(out: &Stdout, input: &[u8]) -> Result<(), Failure> {
+    let mut left = input;
+    while !left.is_empty() {
+        left = show_sheet(out, left)?;
     }
     Ok(())
 }
@@ -341,9 +190,12 @@ fn main(rt: HostRuntime) -> io::Result<()> {
     let mut input = [0u8; 65537];
     let out = rt.stdout();
     let len = read_full(&mut rt.stdin(), &mut input)?;
-    if len == 65537 {
-        say(&out, b"refused 1\n")
-    } else {
-        show_sheets(&out, &input[..len])
+    if len == input.len() {
+        return println!(out; "refused 1");
+    }
+    match show_sheets(&out, &input[..len]) {
+        Ok(()) => Ok(()),
+        Err(Failure::Sheet(broken)) => println!(out; "{broken}"),
+        Err(Failure::Output(error)) => Err(error),
     }
 }

@@ -1,8 +1,5 @@
-use Rattle.std.proofs.Common.{◌≤◌, length}
+use Rattle.std.proofs.Common.{◌≤◌, ◌≡◌}
 use Rattle.show.proofs.show_lines.Given as goal
 
-abbrev pub invariant-loop-left : goal.invariant-loop-left
-invariant-loop-left l = l.at ≤ length l.sheet
-
-abbrev pub decreases-loop-left : goal.decreases-loop-left
-decreases-loop-left l = l.left
+abbrev pub invariant-loop : goal.invariant-loop
+invariant-loop l = record { bytes : l.lines.bytes ≡ l.initial.lines.bytes; place : l.initial.lines.at ≤ l.lines.at }

@@ -1,8 +1,9 @@
-use Rattle.std.proofs.Common.{◌≤◌, ◌-◌, length}
+use Rattle.std.proofs.Common.{◌≤◌, ◌≡◌, length}
+use Rattle.reader.specs.Reading.{left, read_name}
 use Rattle.show.proofs.show_names.Given as goal
 
-abbrev pub invariant-loop-start : goal.invariant-loop-start
-invariant-loop-start l = l.place ≤ length l.sheet
+abbrev pub invariant-loop-name : goal.invariant-loop-name
+invariant-loop-name l = record { bytes : l.names.bytes ≡ l.initial.names.bytes; place : l.initial.names.at ≤ l.names.at }
 
-abbrev pub decreases-loop-start : goal.decreases-loop-start
-decreases-loop-start l = length l.sheet - l.place
+abbrev pub decreases-loop-name : goal.decreases-loop-name
+decreases-loop-name l = length (left read_name l.names)

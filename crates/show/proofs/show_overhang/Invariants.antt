@@ -1,8 +1,9 @@
-use Rattle.std.proofs.Common.{◌≤◌, ◌-◌, length}
+use Rattle.std.proofs.Common.{◌≤◌, ◌≡◌, length}
+use Rattle.reader.specs.Reading.{left, read_hanging}
 use Rattle.show.proofs.show_overhang.Given as goal
 
-abbrev pub invariant-loop-position : goal.invariant-loop-position
-invariant-loop-position l = l.place ≤ length l.sheet
+abbrev pub invariant-loop-cell : goal.invariant-loop-cell
+invariant-loop-cell l = record { bytes : l.overhang.bytes ≡ l.initial.overhang.bytes; place : l.initial.overhang.at ≤ l.overhang.at }
 
-abbrev pub decreases-loop-position : goal.decreases-loop-position
-decreases-loop-position l = length l.sheet - l.place
+abbrev pub decreases-loop-cell : goal.decreases-loop-cell
+decreases-loop-cell l = length (left read_hanging l.overhang)
