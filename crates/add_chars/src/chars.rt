@@ -24,21 +24,17 @@ pub fn push_chars(
     ensures counts_within_units_2 { CountsWithinUnits frame result × (result.used ≡ st.used + length part.now) }
     ensures pushes_chars { PushesChars st part.now cols tag wrapped wb.old wt.old result wb.new wt.new }
 {
-    let line = st.line;
-    let word = st.word;
-    let blanks = st.blanks;
-    let n = push_text(wb, wt, word.n, part, tag);
-    let longer = Word {
+    let n = push_text(wb, wt, st.word.n, part, tag);
+    let word = Word {
         n,
-        cols: word.cols + cols,
+        cols: st.word.cols + cols,
         text: true,
     };
     State {
-        line,
-        word: longer,
-        blanks,
+        word,
         wrapped,
         used: st.used + part.len(),
+        ..st
     }
 }
 
@@ -75,22 +71,17 @@ pub fn keep_blank(
     ensures counts_within_units_2 { CountsWithinUnits frame result × (result.used ≡ st.used + length part.now) }
     ensures keeps_blank { KeepsBlank st part.now cols tag wb.old wt.old result wb.new wt.new }
 {
-    let word = st.word;
-    if word.text {
+    if st.word.text {
         return push_word(frame, st, wb, wt, part, cols, tag);
     }
-    let line = st.line;
-    let pending = st.blanks;
     let blanks = Blanks {
-        count: pending.count + cols,
+        count: st.blanks.count + cols,
         tag,
     };
     State {
-        line,
-        word,
         blanks,
-        wrapped: st.wrapped,
         used: st.used + part.len(),
+        ..st
     }
 }
 
@@ -100,22 +91,14 @@ pub fn collapse(frame: Frame, st: State, tag: u32) -> State
     ensures counts_within_units { CountsWithinUnits frame result × (result.used ≤ st.used + 1) }
     ensures collapses { Collapses st tag result }
 {
-    let line = st.line;
-    let pending = st.blanks;
-    if line.cols == 0 {
+    if st.line.cols == 0 || st.blanks.count != 0 {
         return st;
     }
-    if pending.count != 0 {
-        return st;
-    }
-    let word = st.word;
     let blanks = Blanks { count: 1, tag };
     State {
-        line,
-        word,
         blanks,
-        wrapped: st.wrapped,
         used: st.used + 1,
+        ..st
     }
 }
 
@@ -126,21 +109,11 @@ pub fn add_element(frame: Frame, st: State, wb: &mut [u8], wt: &mut [u32], name:
     ensures counts_within_units_2 { CountsWithinUnits frame result × (result.used ≡ st.used + 1 + length name.now) }
     ensures adds_element { AddsElement st name.now wb.old wt.old result wb.new wt.new }
 {
-    let line = st.line;
-    let word = st.word;
-    let blanks = st.blanks;
-    let start = push_byte(wb, wt, word.n, 0, MARK);
+    let start = push_byte(wb, wt, st.word.n, 0, MARK);
     let n = push_text(wb, wt, start, name, NAME);
-    let longer = Word {
-        n,
-        cols: word.cols,
-        text: word.text,
-    };
     State {
-        line,
-        word: longer,
-        blanks,
-        wrapped: st.wrapped,
+        word: Word { n, ..st.word },
         used: st.used + 1 + name.len(),
+        ..st
     }
 }

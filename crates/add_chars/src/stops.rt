@@ -3,7 +3,7 @@ ghost use Rattle.std.specs.Prelude.{◌≡◌, ◌+◌, ◌<◌, length};
 ghost use Rattle.flush_word.specs.Keep.{CountsWithinUnits, BuffersLongEnough};
 ghost use Rattle.add_chars.specs.Chars.{Newlines, TabFits, TabMoved, Turns, Tabbed, Tabs, Tabbing};
 
-use flush_word::state::{State, no_blanks};
+use flush_word::state::{NO_BLANKS, State};
 use hard_wrap::flush::flush_line;
 use hard_wrap::line::{Frame, Open, force_flush_line};
 use lines::buffer::push_byte;
@@ -16,19 +16,17 @@ pub fn newline(frame: Frame, st: State, lb: &mut [u8], lt: &mut [u32], out: &mut
     ensures newlines { Newlines frame st lb.old lt.old out.old result lb.new lt.new out.new }
 {
     let line = force_flush_line(frame, st.line, lb, lt, out);
-    let word = st.word;
-    let blanks = no_blanks();
     State {
         line,
-        word,
-        blanks,
+        blanks: NO_BLANKS,
         wrapped: false,
         used: st.used + 1,
+        ..st
     }
 }
 
 // Where a tab stands: the open line, the position, and whether a space was written.
-#[derive(Clone, Copy)]
+#[derive(Clone, Copy, Debug, PartialEq, Eq)]
 pub struct TabAt {
     pub line: Open,
     pub pos: usize,
@@ -48,24 +46,18 @@ fn tab_turn(
     ensures tab_moved { TabMoved frame at result }
     ensures turns { Turns frame at tag lb.old lt.old out.old result lb.new lt.new out.new }
 {
-    let line = at.line;
     if frame.width <= at.pos {
-        let next = flush_line(frame, line, lb, lt, out);
-        return TabAt {
-            line: next,
-            pos: 0,
-            one: at.one,
-        };
+        let line = flush_line(frame, at.line, lb, lt, out);
+        return TabAt { line, pos: 0, ..at };
     }
-    let n = push_byte(lb, lt, line.n, 32, tag);
-    let next = Open {
+    let n = push_byte(lb, lt, at.line.n, 32, tag);
+    let line = Open {
         n,
-        cols: line.cols + 1,
-        place: line.place,
-        lines: line.lines,
+        cols: at.line.cols + 1,
+        ..at.line
     };
     TabAt {
-        line: next,
+        line,
         pos: at.pos + 1,
         one: true,
     }
@@ -85,15 +77,11 @@ fn tab_line(
     ensures tabs { Tabs frame start tag lb.old lt.old out.old result lb.new lt.new out.new }
 {
     let mut cur = start;
-    let mut turns: usize = 10;
-    while 0 < turns {
-        if cur.pos % 8 == 0 {
-            if cur.one {
-                return cur.line;
-            }
+    for _turn in 0..10usize {
+        if cur.pos % 8 == 0 && cur.one {
+            return cur.line;
         }
         cur = tab_turn(frame, cur, lb, lt, tag, out);
-        turns -= 1;
     }
     cur.line
 }
@@ -112,20 +100,15 @@ pub fn tab(
     ensures counts_within_units_2 { CountsWithinUnits frame result × (result.used ≡ st.used + 1) }
     ensures tabbing { Tabbing frame st tag lb.old lt.old out.old result lb.new lt.new out.new }
 {
-    let line = st.line;
-    let word = st.word;
-    let blanks = st.blanks;
     let start = TabAt {
-        line,
-        pos: line.cols + word.cols + blanks.count,
+        line: st.line,
+        pos: st.line.cols + st.word.cols + st.blanks.count,
         one: false,
     };
-    let next = tab_line(frame, start, lb, lt, tag, out);
+    let line = tab_line(frame, start, lb, lt, tag, out);
     State {
-        line: next,
-        word,
-        blanks,
-        wrapped: st.wrapped,
+        line,
         used: st.used + 1,
+        ..st
     }
 }

@@ -10,7 +10,6 @@ use crate::walk::{Walk, tag_of};
 use add_chars::chars::push_chars;
 use characters::plain::plain_run;
 use hard_wrap::line::Frame;
-use hard_wrap::numbers::{least, less};
 
 // How plain characters are taken: at most so many bytes, the annotation, and `pre_wrapped` after them.
 #[derive(Clone, Copy, Debug, PartialEq, Eq)]
@@ -40,10 +39,8 @@ fn take_of(frame: Frame, run: Run, w: Walk) -> Take
             wrapped: st.wrapped,
         };
     }
-    let line = st.line;
-    let word = st.word;
-    let blanks = st.blanks;
-    let left = less(frame.width, line.cols + blanks.count + word.cols);
+    let reached = st.line.cols + st.blanks.count + st.word.cols;
+    let left = frame.width.saturating_sub(reached);
     if left == 0 {
         return Take {
             most: 4096,
@@ -73,7 +70,7 @@ pub fn add_plain(
     ensures adds_plain { AddsPlain frame run w text.now wb.old wt.old result wb.new wt.new }
 {
     let take = take_of(frame, run, w);
-    let end = least(text.len(), take.most);
+    let end = text.len().min(take.most);
     let plain = plain_run(&text[..end], false);
     let len = plain.len;
     if len == 0 {

@@ -22,10 +22,7 @@ pub struct Run {
 fn first_annotation(run: Run, wrapped: bool) -> u32
     ensures { result ≡ (if wrapped then run.wrap else run.main) }
 {
-    if wrapped {
-        return run.wrap;
-    }
-    run.main
+    if wrapped { run.wrap } else { run.main }
 }
 
 // `add_text`: the text of a T field, run by run of plain characters and one character after each.

@@ -4,7 +4,7 @@ ghost use Rattle.std.proofs.Math.Option.{some};
 ghost use Rattle.characters.specs.Columns.{width_of};
 ghost use Rattle.flush_word.specs.Keep.{CountsWithinUnits, BuffersLongEnough, StaysWithinUnits};
 ghost use Rattle.add_chars.specs.Chars.{AmongUnits};
-ghost use Rattle.add_text.specs.Walks.{RunSmall, Ready, WalkedSmall, WalkSmall, CharIs, wrapped_on};
+ghost use Rattle.add_text.specs.Walks.{RunSmall, Ready, WalkedSmall, WalkSmall, CharIs};
 ghost use Rattle.add_text.specs.Walks.{AddsNewline, AddsTab, AddsKept, AddsCollapsed, AddsWordChar, BreaksWord, AddsBlank, PutsChar, AddsChar};
 
 use crate::text::Run;
@@ -12,7 +12,6 @@ use add_chars::chars::{collapse, keep_blank, push_word};
 use add_chars::stops::{newline, tab};
 use characters::columns::{Columns, columns_of};
 use characters::whitespace::{always_takes_space, is_wordbreak_point};
-use fields::field::wide;
 use flush_word::state::State;
 use flush_word::word::flush_word;
 use hard_wrap::error::TooNarrow;
@@ -75,12 +74,10 @@ fn add_tab(
     ensures walk_small { WalkSmall frame (w.st.used + 1) result }
     ensures adds_tab { AddsTab frame w mode lb.old lt.old wb.now wt.now out.old result lb.new lt.new out.new }
 {
-    let st = w.st;
-    let ann = w.ann;
-    let tag = tag_of(ann, mode);
-    let done = flush_word(frame, st, lb, lt, wb, wt, out)?;
-    let next = tab(frame, done, lb, lt, tag, out);
-    Ok(Walk { st: next, ann })
+    let tag = tag_of(w.ann, mode);
+    let done = flush_word(frame, w.st, lb, lt, wb, wt, out)?;
+    let st = tab(frame, done, lb, lt, tag, out);
+    Ok(Walk { st, ..w })
 }
 
 // A blank that is neither LF nor tab where white space is kept; a control is dropped.
@@ -98,14 +95,12 @@ fn add_kept(
     ensures walked_small { WalkedSmall frame result (w.st.used + length part.now) }
     ensures adds_kept { AddsKept w mode part.now code wb.old wt.old result wb.new wt.new }
 {
-    let st = w.st;
-    let ann = w.ann;
-    let tag = tag_of(ann, mode);
+    let tag = tag_of(w.ann, mode);
     let k = columns_of(code);
     match k {
         Columns::Cols(cols) => {
-            let next = keep_blank(frame, st, wb, wt, part, wide(cols), tag);
-            Walk { st: next, ann }
+            let st = keep_blank(frame, w.st, wb, wt, part, usize::from(cols), tag);
+            Walk { st, ..w }
         }
         Columns::Control => w,
         Columns::OffList => w,
@@ -118,10 +113,8 @@ fn add_collapsed(frame: Frame, w: Walk) -> Walk
     ensures walked_small { WalkedSmall frame result (w.st.used + 1) }
     ensures adds_collapsed { AddsCollapsed w result }
 {
-    let st = w.st;
-    let ann = w.ann;
-    let next = collapse(frame, st, ann);
-    Walk { st: next, ann }
+    let st = collapse(frame, w.st, w.ann);
+    Walk { st, ..w }
 }
 
 // A character of a word, of so many columns; in Pre, past the width, it takes the continued annotation.
@@ -141,37 +134,20 @@ fn add_cols(
     ensures adds_word_char { AddsWordChar frame run w part.now code (some cols) wb.old wt.old result wb.new wt.new }
 {
     let st = w.st;
-    let ann = w.ann;
     if run.mode == 1 {
-        let line = st.line;
-        let word = st.word;
-        let blanks = st.blanks;
-        if frame.width < line.cols + blanks.count + (word.cols + cols) {
+        if frame.width < st.line.cols + st.blanks.count + (st.word.cols + cols) {
             let next = push_word(frame, st, wb, wt, part, cols, tag_of(run.wrap, 1));
             return Walk {
-                st: wrap_on(next),
+                st: State {
+                    wrapped: true,
+                    ..next
+                },
                 ann: run.wrap,
             };
         }
     }
-    let next = push_word(frame, st, wb, wt, part, cols, tag_of(ann, run.mode));
-    Walk { st: next, ann }
-}
-
-// `pre_wrapped` is set.
-fn wrap_on(st: State) -> State
-    ensures { result ≡ wrapped_on st }
-{
-    let line = st.line;
-    let word = st.word;
-    let blanks = st.blanks;
-    State {
-        line,
-        word,
-        blanks,
-        wrapped: true,
-        used: st.used,
-    }
+    let next = push_word(frame, st, wb, wt, part, cols, tag_of(w.ann, run.mode));
+    Walk { st: next, ..w }
 }
 
 // A character of a word; a control is dropped.
@@ -191,7 +167,7 @@ fn add_word_char(
 {
     let k = columns_of(code);
     match k {
-        Columns::Cols(cols) => add_cols(frame, run, w, wb, wt, part, code, wide(cols)),
+        Columns::Cols(cols) => add_cols(frame, run, w, wb, wt, part, code, usize::from(cols)),
         Columns::Control => w,
         Columns::OffList => w,
     }
@@ -215,11 +191,7 @@ fn break_word(
         lb.old lt.old wb.now wt.now out.old result
         lb.new lt.new out.new }
 {
-    let word = st.word;
-    if word.cols == 0 {
-        return Ok(st);
-    }
-    if run.mode == 1 {
+    if st.word.cols == 0 || run.mode == 1 {
         return Ok(st);
     }
     if is_wordbreak_point(code) {
@@ -309,9 +281,7 @@ pub fn add_char(
         lb.old lt.old wb.old wt.old out.old result
         lb.new lt.new wb.new wt.new out.new }
 {
-    let st = w.st;
-    let ann = w.ann;
-    let next = break_word(frame, run, st, code, lb, lt, wb, wt, out)?;
-    let on = Walk { st: next, ann };
+    let st = break_word(frame, run, w.st, code, lb, lt, wb, wt, out)?;
+    let on = Walk { st, ..w };
     put_char(frame, run, on, code, part, lb, lt, wb, wt, out)
 }

@@ -48,12 +48,6 @@ holds_lines e f o =
 abbrev pub opened : Open → Bool → ℕ → State
 opened o p u = record { line = o; word = no_word; blanks = no_blanks; wrapped = p; used = u }
 
--- what `emptied` makes
-pub emptied_is : {r : State} {o : Open} {p : Bool} {u : ℕ}
-    → (r.line ≡ o) × (r.word ≡ no_word) × (r.blanks ≡ no_blanks) × (r.wrapped ≡ p) × (r.used ≡ u) → opened o p u ≡ r
-emptied_is x =
-    sym (λ i. record { line = x.0 i; word = x.1 i; blanks = x.2 i; wrapped = x.3 i; used = x.4 i })
-
 pub keeps_same : {d₀ : List ℕ} {base : ℕ} {b : Block} {st r : State} {lb lt wb wt out : List ℕ} → st ≡ r
     → Keeps d₀ base b st lb lt wb wt out → Keeps d₀ base b r lb lt wb wt out
 keeps_same {d₀} {base} {b} {st} {r} {lb} {lt} {wb} {wt} {out} e k = subst (λ (z : State). Keeps d₀ base b z lb lt wb wt out) e k

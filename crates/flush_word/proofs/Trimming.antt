@@ -6,13 +6,13 @@ use mathlib.Core.Option.{Option, none, some}
 use mathlib.Core.List.{List, [], ◌∷◌, ◌++◌, map}
 use mathlib.Core.Logic.{inl}
 use Prim.Native.Nat.{ℕ, ◌+◌, ◌-◌, ◌/◌, ◌%◌, ◌<◌, ◌≤◌}
-use native.Mathlib.Numerals.{add-one}
 use native.Mathlib.Omega.{arith}
 use borrow.Author.Tests.{lt-ltb, le-ltb, eq-eqb, ne_eqb, eqb-true}
 use lib.Dec.{ltb, leb, eqb}
 use lib.ListN.{length, drop, get_or, length-append, length-drop, drop_of_length-le}
-use lib.Seq.{drop-drop, drop-cons}
-use Rattle.std.specs.Prelude.{if◌then◌else◌}
+use lib.Seq.{drop-drop}
+use Rattle.std.specs.Prelude.{Option as Found, Some, None, cond, if◌then◌else◌}
+use Rattle.std.specs.List.{find}
 use Rattle.characters.specs.Utf8.{utf8, char as first_char, decode_of, Scalar}
 use Rattle.characters.specs.Columns.{or_zero, cols}
 use Rattle.characters.specs.Whitespace.{is_whitespace}
@@ -373,18 +373,27 @@ module _ (wt : List ℕ) where
   pub starts_pre_lem : (r : Bool) → r ≡ first_pre wt → StartsPre wt r
   starts_pre_lem r e = λ wb w v same q. e ∙ ap first_pre (sym (zip_tags wb wt same) ∙ ap (map tag_of) q) ∙ pre_enc w v
 
-  pub pre_end : (i : ℕ) → length wt ≤ i → first_pre (drop i wt) ≡ false
-  unfolding first_pre
-  pre_end i h = rw (drop_of_length-le wt h)
+-- the same of the first text's tag
+abbrev of_first : Found ℕ → Bool
+of_first None = false
+of_first (Some t) = eqb (t / 65536) 1
 
-  module _ (i : ℕ) (h : i < length wt) where
-    pub pre_here : get_or wt i 0 < mark_tag → first_pre (drop i wt) ≡ eqb (get_or wt i 0 / 65536) 1
-    unfolding first_pre
-    pre_here k = ap first_pre (drop-cons wt i 0 h) ∙ rw (lt-ltb (get_or wt i 0) mark_tag k)
+first_is : (ts : List ℕ) → first_pre ts ≡ of_first (find (λ t. ltb t mark_tag) ts)
+unfolding first_pre
+first_is [] = refl
+first_is (t ∷ ts) = step (ltb t mark_tag) (first_is ts)
+  where
+    step : (b : Bool) → first_pre ts ≡ of_first (find (λ u. ltb u mark_tag) ts) → (if b then eqb (t / 65536) 1 else first_pre ts) ≡ of_first (cond b (Some t) (find (λ u. ltb u mark_tag) ts))
+    step true e = refl
+    step false e = e
 
-    pub pre_on : mark_tag ≤ get_or wt i 0 → first_pre (drop i wt) ≡ first_pre (drop (i + 1) wt)
-    unfolding first_pre
-    pre_on k = ap first_pre (drop-cons wt i 0 h) ∙ rw (le-ltb (get_or wt i 0) mark_tag k, add-one i)
+-- The first text is found.
+pub pre_found : (ts : List ℕ) (t : ℕ) → Some t ≡ find (λ u. ltb u mark_tag) ts → eqb (t / 65536) 1 ≡ first_pre ts
+pre_found ts t e = ap of_first e ∙ sym (first_is ts)
+
+-- There is none.
+pub pre_none : (ts : List ℕ) → None ≡ find (λ u. ltb u mark_tag) ts → false ≡ first_pre ts
+pre_none ts e = ap of_first e ∙ sym (first_is ts)
 
 -- ---- where a word starts
 

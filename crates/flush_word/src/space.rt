@@ -2,10 +2,9 @@
 ghost use Rattle.std.specs.Prelude.{◌≡◌, ◌/◌, ◌<◌, ◌≤◌, length};
 ghost use Rattle.flush_word.specs.Keep.{CountsWithinUnits, BuffersLongEnough, Dropping, KeepsPre, Trimmed, TrimsLine, Drops};
 
-use crate::state::{Blanks, State, no_blanks};
+use crate::state::{Blanks, NO_BLANKS, State};
 use crate::trim::trimmed_end;
 use hard_wrap::line::{Frame, Open};
-use hard_wrap::numbers::less;
 use lines::buffer::push_blanks;
 
 // The line and the blanks that are left, once a word does not fit.
@@ -35,7 +34,7 @@ fn keep_pre(frame: Frame, st: State, lb: &mut [u8], lt: &mut [u32]) -> Dropped
     if left <= blanks.count {
         let rest = Blanks {
             count: blanks.count - left,
-            tag: blanks.tag,
+            ..blanks
         };
         return Dropped { line, blanks: rest };
     }
@@ -43,13 +42,11 @@ fn keep_pre(frame: Frame, st: State, lb: &mut [u8], lt: &mut [u32]) -> Dropped
     let open = Open {
         n,
         cols: line.cols + blanks.count,
-        place: line.place,
-        lines: line.lines,
+        ..line
     };
-    let none = no_blanks();
     Dropped {
         line: open,
-        blanks: none,
+        blanks: NO_BLANKS,
     }
 }
 
@@ -62,9 +59,8 @@ fn trim_line(line: Open, lb: &[u8], lt: &[u32]) -> Open
     let n = trimmed_end(lb, lt, line.n);
     Open {
         n,
-        cols: less(line.cols, line.n - n),
-        place: line.place,
-        lines: line.lines,
+        cols: line.cols.saturating_sub(line.n - n),
+        ..line
     }
 }
 
@@ -76,20 +72,25 @@ pub fn drop_blanks(frame: Frame, st: State, lb: &mut [u8], lt: &mut [u32]) -> Dr
 {
     let line = st.line;
     let blanks = st.blanks;
-    let none = no_blanks();
     if blanks.count == 0 {
-        return Dropped { line, blanks: none };
+        return Dropped {
+            line,
+            blanks: NO_BLANKS,
+        };
     }
     let mode = mode_of(blanks.tag);
     if mode == 1 {
         return keep_pre(frame, st, lb, lt);
     }
     if mode == 0 {
-        return Dropped { line, blanks: none };
+        return Dropped {
+            line,
+            blanks: NO_BLANKS,
+        };
     }
     let trimmed = trim_line(line, lb, lt);
     Dropped {
         line: trimmed,
-        blanks: none,
+        blanks: NO_BLANKS,
     }
 }

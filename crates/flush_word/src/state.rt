@@ -1,7 +1,4 @@
 // The block's state by value (`WrappedBlock`); the bytes of line and word stand in lent buffers.
-ghost use Rattle.std.specs.Prelude.{◌≡◌};
-ghost use Rattle.flush_word.specs.Keep.{no_word, no_blanks};
-
 use hard_wrap::line::Open;
 
 // The word still open: its entries, its columns (`wordlen`), and whether it has text (`!word.is_empty()`).
@@ -31,19 +28,11 @@ pub struct State {
 }
 
 // A word of nothing.
-pub fn no_word() -> Word
-    ensures { result ≡ no_word }
-{
-    Word {
-        n: 0,
-        cols: 0,
-        text: false,
-    }
-}
+pub const NO_WORD: Word = Word {
+    n: 0,
+    cols: 0,
+    text: false,
+};
 
 // No blanks.
-pub fn no_blanks() -> Blanks
-    ensures { result ≡ no_blanks }
-{
-    Blanks { count: 0, tag: 0 }
-}
+pub const NO_BLANKS: Blanks = Blanks { count: 0, tag: 0 };

@@ -43,16 +43,10 @@ pub fn trimmed_end(lb: &[u8], lt: &[u32], n: usize) -> usize
     ensures upper_bound { result ≤ n }
     ensures trims_back { TrimsBack lb.now lt.now n result }
 {
-    let mut k = n;
-    while 0 < k {
-        let i = k - 1;
-        if lb[i] != 32 {
-            return k;
+    for i in (0..n).rev() {
+        if lb[i] != 32 || MARK <= lt[i] {
+            return i + 1;
         }
-        if MARK <= lt[i] {
-            return k;
-        }
-        k = i;
     }
-    k
+    0
 }

@@ -1,9 +1,9 @@
 // `flush_word`.
 ghost use Rattle.std.specs.Prelude.{◌≡◌, true, false, ◌+◌, ◌-◌, ◌≤◌, length};
-ghost use Rattle.flush_word.specs.Keep.{no_word, no_blanks, CountsWithinUnits, BuffersLongEnough, PutsWord, StartsPre, StartsAt, Opened, OpensLine, StaysWithinUnits, WrapsWord, FlushesWord};
+ghost use Rattle.flush_word.specs.Keep.{CountsWithinUnits, BuffersLongEnough, PutsWord, StartsPre, StartsAt, Opened, OpensLine, StaysWithinUnits, WrapsWord, FlushesWord};
 
 use crate::space::{drop_blanks, mode_of};
-use crate::state::{Blanks, State, no_blanks, no_word};
+use crate::state::{Blanks, NO_BLANKS, NO_WORD, State};
 use crate::trim::white_front;
 use hard_wrap::error::TooNarrow;
 use hard_wrap::flush::{flush_line, write_blanks};
@@ -11,21 +11,6 @@ use hard_wrap::line::{Frame, Open};
 use hard_wrap::wrap::hard_wrap;
 use lines::buffer::{append, push_blanks};
 use lines::encode::MARK;
-
-// The state with another line and nothing pending.
-fn emptied(line: Open, wrapped: bool, used: usize) -> State
-    ensures { (result.line ≡ line) × (result.word ≡ no_word) × (result.blanks ≡ no_blanks) × (result.wrapped ≡ wrapped) × (result.used ≡ used) }
-{
-    let word = no_word();
-    let blanks = no_blanks();
-    State {
-        line,
-        word,
-        blanks,
-        wrapped,
-        used,
-    }
-}
 
 // "Got enough space": the blanks and the word go on the line.
 fn put_word(frame: Frame, st: State, lb: &mut [u8], lt: &mut [u32], wb: &[u8], wt: &[u32]) -> State
@@ -42,25 +27,25 @@ fn put_word(frame: Frame, st: State, lb: &mut [u8], lt: &mut [u32], wb: &[u8], w
     let open = Open {
         n,
         cols: line.cols + blanks.count + word.cols,
-        place: line.place,
-        lines: line.lines,
+        ..line
     };
-    emptied(open, false, st.used)
+    State {
+        line: open,
+        word: NO_WORD,
+        blanks: NO_BLANKS,
+        wrapped: false,
+        ..st
+    }
 }
 
 // Whether a word's first text is of mode Pre.
 fn starts_pre(wt: &[u32]) -> bool
     ensures { StartsPre wt.now result }
 {
-    let mut i: usize = 0;
-    while i < wt.len() {
-        let tag = wt[i];
-        if tag < MARK {
-            return mode_of(tag) == 1;
-        }
-        i += 1;
+    match wt.iter().find(|tag| **tag < MARK) {
+        Some(tag) => mode_of(*tag) == 1,
+        None => false,
     }
-    false
 }
 
 // Where the word starts once PreWrap has trimmed its front.
@@ -112,7 +97,13 @@ fn wrap_word(
     let start = word_start(blanks, &wb[..n], &wt[..n]);
     let line = next_line(frame, st, lb, lt, out);
     let last = hard_wrap(frame, line, lb, lt, &wb[start..n], &wt[start..n], out)?;
-    Ok(emptied(last, pre, st.used))
+    Ok(State {
+        line: last,
+        word: NO_WORD,
+        blanks: NO_BLANKS,
+        wrapped: pre,
+        ..st
+    })
 }
 
 // `flush_word`: nothing while the word has no text.

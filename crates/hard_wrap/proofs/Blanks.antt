@@ -109,10 +109,9 @@ module _ (frame : Frame) (st r : Open) (d₀ : List ℕ) (base : ℕ) (lb lt lb'
       sym (rw (lt-leb frame.width (columns (on_line 0x20 t b).line) (omega arith)))
 
 -- one more of them
-pub blanks_turn : (s : Setup) (n : ℕ) (t : Tag) (b : Block) → 0 < n → write_blanks s n (some t) b ≡ write_blanks s (n - 1) (some t) (write_blanks s 1 (some t) b)
+pub blanks_turn : (s : Setup) (count i : ℕ) (t : Tag) (b : Block) → i < count → write_blanks s (count - i) (some t) b ≡ write_blanks s (count - (i + 1)) (some t) (write_blanks s 1 (some t) b)
 unfolding write_blanks
-blanks_turn s zero t b h = absurd (omega arith)
-blanks_turn s (suc n) t b h = let e : suc n - 1 ≡ n = omega arith in rw e
+blanks_turn s count i t b h = let e : count - i ≡ suc (count - (i + 1)) = omega arith in rw e
 
 -- No blanks are left.
 pub blanks_none : (s : Setup) (n : ℕ) (t : Tag) (b : Block) → n ≤ 0 → write_blanks s n (some t) b ≡ b
@@ -131,14 +130,13 @@ pub holds_same : {d₀ : List ℕ} {base : ℕ} {x y : Block} {st : Open} {lb lt
 holds_same {d₀} {base} {x} {y} {st} {lb} {lt} {out} e o = subst (λ (z : Block). Holds d₀ base z st lb lt out) e o
 
 -- The invariant of the loop that writes blanks: the numbers, and that those left make the whole.
-pub record Blanking (frame : Frame) (lb₀ lt₀ : List ℕ) (count tag : ℕ) (out₀ : List ℕ) (st : Open) (lb lt out : List ℕ) (cur : Open) (left : ℕ) : Type 0 where
-  pub inside : left ≤ count
+pub record Blanking (frame : Frame) (lb₀ lt₀ : List ℕ) (count tag : ℕ) (out₀ : List ℕ) (st : Open) (lb lt out : List ℕ) (cur : Open) (i : ℕ) : Type 0 where
   pub cols : cur.cols ≤ frame.width
   pub bytes : length lb ≡ length lb₀
   pub tags : length lt ≡ length lt₀
   pub store : length out ≡ length out₀
-  pub n : cur.n + left ≤ st.n + count
-  pub place : cur.place + 65538 * left ≤ st.place + 65538 * count
+  pub n : cur.n ≤ st.n + i
+  pub place : cur.place ≤ st.place + 65538 * i
   pub lines : cur.lines ≤ cur.place
   pub going : (d₀ : List ℕ) (base : ℕ) (b : Block) (t : Tag) → Holds d₀ base b st lb₀ lt₀ out₀ → tag ≡ num t → t.ann < 256
-      → BlanksLeft (setup frame) d₀ base b t count left cur lb lt out
+      → BlanksLeft (setup frame) d₀ base b t count (count - i) cur lb lt out

@@ -2,8 +2,8 @@
 -- Assumes nothing.
 use mathlib.Core.Path.{◌≡◌, refl, sym, ap, ◌∙◌}
 use mathlib.Core.Bool.{Bool, true, false, cond}
-use mathlib.Core.List.{List, [], ◌∷◌, ◌++◌, map, append-nil}
-use Prim.Native.Nat.{ℕ, ◌+◌, ◌-◌, ◌<◌, ◌≤◌}
+use mathlib.Core.List.{List, [], ◌∷◌, ◌++◌, map}
+use Prim.Native.Nat.{ℕ, ◌+◌, ◌-◌, ◌<◌}
 use native.Mathlib.Omega.{arith}
 use lib.ListN.{replicate, length-append}
 use Rattle.characters.specs.Columns.{str_width}
@@ -31,22 +31,6 @@ use Rattle.block.proofs.Width.{columns_append}
 pub written : {d₀ : List ℕ} {base : ℕ} {b : Block} {st : Open} {lb lt out : List ℕ} → Holds d₀ base b st lb lt out
     → Wrote d₀ base (lines_bytes (map flat_sheet_line b.text)) out st.place
 written o = record { place = o.place; store = o.store }
-
-module _ (frame : Frame) (st : Open) (l : List Item) where
-  -- spaces up to the width
-  pub pad_on : (x : List Item) → x ≡ l ++ replicate (frame.width - st.cols) (item 0x20 frame.default_tag) → frame.pad ≡ true → x ≡ padded frame st l
-  unfolding padded
-  pad_on x e p = rw p e
-
-  -- a line that has the width already
-  pub pad_full : frame.pad ≡ true → frame.width ≤ st.cols → l ≡ padded frame st l
-  unfolding padded
-  pad_full p h = let q : frame.width - st.cols ≡ 0 = omega arith in rw (p, q) (sym (append-nil l))
-
-  -- a block that does not pad
-  pub pad_off : frame.pad ≡ false → l ≡ padded frame st l
-  unfolding padded
-  pad_off p = rw p
 
 num_normal : (d : ℕ) → num (tag d normal) ≡ d
 unfolding num

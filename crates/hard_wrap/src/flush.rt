@@ -17,8 +17,7 @@ pub fn flush_line(frame: Frame, st: Open, lb: &mut [u8], lt: &mut [u32], out: &m
         return Open {
             n: 0,
             cols: 0,
-            place: st.place,
-            lines: st.lines,
+            ..st
         };
     }
     force_flush_line(frame, st, lb, lt, out)
@@ -42,8 +41,7 @@ fn write_blank(
     let next = Open {
         n,
         cols: st.cols + 1,
-        place: st.place,
-        lines: st.lines,
+        ..st
     };
     if frame.width <= next.cols {
         return force_flush_line(frame, next, lb, lt, out);
@@ -67,10 +65,8 @@ pub fn write_blanks(
     ensures writes { Writes frame st count tag lb.old lt.old out.old result lb.new lt.new out.new }
 {
     let mut cur = st;
-    let mut left = count;
-    while left > 0 {
+    for _written in 0..count {
         cur = write_blank(frame, cur, lb, lt, tag, out);
-        left -= 1;
     }
     cur
 }

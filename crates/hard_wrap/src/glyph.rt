@@ -5,7 +5,6 @@ ghost use Rattle.std.specs.Prelude.{true, ◌*◌, ◌^◌, ◌≤◌, ◌<◌, 
 ghost use Rattle.characters.specs.Plain.{PlainRun};
 ghost use Rattle.hard_wrap.specs.Walk.{Shows, Widths};
 
-use crate::numbers::least;
 use characters::columns::char_width;
 use characters::plain::{Plain, plain_run};
 use characters::utf8::decode;
@@ -37,7 +36,7 @@ pub fn plain_within(part: &[u8], left: usize) -> Plain
     ensures len_in_bounds { (result.len ≤ length part.now) × (result.cols ≤ left) }
     ensures plain_run { PlainRun true part.now result.len result.cols }
 {
-    let end = least(part.len(), left);
+    let end = part.len().min(left);
     plain_run(&part[..end], true)
 }
 

@@ -25,21 +25,17 @@ pub struct Open {
 }
 
 // Spaces of the default annotation up to the width, where the block pads (`pad_to`).
+#[tactic(auto, unfolding(crate::specs::Hold::padded))]
 fn pad_line(frame: Frame, st: Open, lb: &mut [u8], lt: &mut [u32]) -> usize
     requires { Room frame st 0 1 (length lb.old) (length lt.old) }
     ensures upper_bound { result ≤ st.n + frame.width }
     ensures result_after { items lb.new lt.new result ≡ padded frame st (items lb.old lt.old st.n) }
 {
-    let n = st.n;
     if frame.pad {
-        let cols = st.cols;
-        let width = frame.width;
-        if cols < width {
-            return push_blanks(lb, lt, n, width - cols, frame.default_tag);
-        }
-        return n;
+        let missing = frame.width.saturating_sub(st.cols);
+        return push_blanks(lb, lt, st.n, missing, frame.default_tag);
     }
-    n
+    st.n
 }
 
 // The open line goes to the store, and the next one is open and empty (`force_flush_line`).
@@ -55,12 +51,11 @@ pub fn force_flush_line(
     ensures force_flushes { ForceFlushes frame st lb.old lt.old out.old result lb.new lt.new out.new }
 {
     let n = pad_line(frame, st, lb, lt);
-    let at = st.place;
-    let end = encode_line(lb, lt, n, out, at);
+    let place = encode_line(lb, lt, n, out, st.place);
     Open {
         n: 0,
         cols: 0,
-        place: end,
+        place,
         lines: st.lines + 1,
     }
 }

@@ -7,7 +7,6 @@ ghost use Rattle.hard_wrap.specs.Hold.{Longer, PutsText, Room, Emptied, ClosesWi
 use crate::error::TooNarrow;
 use crate::glyph::{glyph, plain_within, width_of};
 use crate::line::{Frame, Open, force_flush_line};
-use crate::numbers::less;
 use lines::buffer::push_text;
 
 // The open line after a line of a piece, and how many bytes and columns of the piece went on that one.
@@ -28,8 +27,7 @@ fn put_text(st: Open, lb: &mut [u8], lt: &mut [u32], part: &[u8], used: usize, t
     Open {
         n,
         cols: st.cols + used,
-        place: st.place,
-        lines: st.lines,
+        ..st
     }
 }
 
@@ -138,7 +136,7 @@ pub fn wrap_piece(
         wpos += step.used;
     }
     if bpos < piece.len() {
-        let used = less(w, wpos);
+        let used = w.saturating_sub(wpos);
         return Ok(put_text(cur, lb, lt, &piece[bpos..], used, tag));
     }
     Ok(cur)

@@ -1,23 +1,25 @@
--- Laws of items and of the loops that push them.
+-- Laws of items, and of entries written behind them.
 -- Assumes nothing.
 use mathlib.Core.Path.{◌≡◌, refl, sym, ap, ◌∙◌}
-use mathlib.Core.List.{List, [], ◌∷◌, ◌++◌, map, append-nil, append_assoc}
-use Prim.Native.Nat.{ℕ, zero, suc, ◌+◌, ◌≤◌, ◌<◌}
+use mathlib.Core.List.{List, [], ◌∷◌, ◌++◌, map}
+use Prim.Native.Nat.{ℕ, zero, suc, ◌+◌, ◌-◌, ◌≤◌, ◌<◌}
 use native.Mathlib.Numerals.{add-one}
 use native.Mathlib.Omega.{arith}
-use lib.ListN.{length, take, drop, get_or, set, length-take, replicate, replicate-append-replicate}
-use lib.Seq.{take-suc, take-suc-set, take-length, length-take-le}
+use lib.ListN.{length, take, drop, get_or, set, length-take, length-drop, replicate}
+use lib.Seq.{take-suc, take-suc-set, length-take-le}
+use Rattle.std.proofs.lemmas.Slice.{take-put_mid}
+use borrow.Rule.Slice.PartMut.{put_mid}
 use Rattle.lines.specs.Items.{Item, item, byte_of, tag_of, zip, items}
 use Rattle.lines.specs.Bridge.{tagged}
 
 -- ---- zip
 
--- one more in both lists
-pub zip_snoc : (bs ts : List ℕ) (b t : ℕ) → length bs ≡ length ts → zip (bs ++ (b ∷ [])) (ts ++ (t ∷ [])) ≡ zip bs ts ++ (item b t ∷ [])
-zip_snoc [] [] b t e = refl
-zip_snoc [] (y ∷ ts) b t e = absurd (omega (arith, e))
-zip_snoc (x ∷ bs) [] b t e = absurd (omega (arith, e))
-zip_snoc (x ∷ bs) (y ∷ ts) b t e = ap (λ (l : List Item). item x y ∷ l) (zip_snoc bs ts b t (omega (arith, e)))
+-- Two pairs of lists, one after the other.
+pub zip_append : (bs ts cs us : List ℕ) → length bs ≡ length ts → zip (bs ++ cs) (ts ++ us) ≡ zip bs ts ++ zip cs us
+zip_append [] [] cs us h = refl
+zip_append [] (t ∷ ts) cs us h = absurd (omega (arith, h))
+zip_append (b ∷ bs) [] cs us h = absurd (omega (arith, h))
+zip_append (b ∷ bs) (t ∷ ts) cs us h = ap (λ (l : List Item). item b t ∷ l) (zip_append bs ts cs us (omega (arith, h)))
 
 -- The bytes of the items of two lists.
 pub zip_bytes : (bs ts : List ℕ) → length bs ≡ length ts → map byte_of (zip bs ts) ≡ bs
@@ -64,12 +66,12 @@ items_length bs ts n h k = length_zip (take n bs) (take n ts) (length-take-le n 
 -- a store at n of both buffers is one more item
 pub items_push : (bs ts : List ℕ) (n b t : ℕ) → n < length bs → n < length ts → items (set bs n b) (set ts n t) (n + 1) ≡ items bs ts n ++ (item b t ∷ [])
 unfolding items
-items_push bs ts n b t h k = let e : length (take n bs) ≡ length (take n ts) = simp length-take (omega arith) in rw (add-one, take-suc-set bs, take-suc-set ts, zip_snoc)
+items_push bs ts n b t h k = let e : length (take n bs) ≡ length (take n ts) = simp length-take (omega arith) in rw (add-one, take-suc-set bs, take-suc-set ts, zip_append)
 
 -- one more item of buffers that stay
 pub items_more : (bs ts : List ℕ) (n : ℕ) → n < length bs → n < length ts → items bs ts (n + 1) ≡ items bs ts n ++ (item (get_or bs n 0) (get_or ts n 0) ∷ [])
 unfolding items
-items_more bs ts n h k = let e : length (take n bs) ≡ length (take n ts) = simp length-take (omega arith) in rw (add-one, take-suc bs n 0, take-suc ts n 0, zip_snoc)
+items_more bs ts n h k = let e : length (take n bs) ≡ length (take n ts) = simp length-take (omega arith) in rw (add-one, take-suc bs n 0, take-suc ts n 0, zip_append)
 
 -- Bytes of one tag, put together.
 pub tagged_append : (t : ℕ) (a b : List ℕ) → tagged t (a ++ b) ≡ tagged t a ++ tagged t b
@@ -77,43 +79,41 @@ unfolding tagged
 tagged_append t [] b = refl
 tagged_append t (x ∷ a) b = ap (λ (l : List Item). item x t ∷ l) (tagged_append t a b)
 
--- ---- turns: what a loop's turn makes of its invariant, over plain values
+-- ---- a part of both buffers that is written
 
--- one item more of another pair
-pub append_turn : (bs ts : List ℕ) (i : ℕ) (A old new : List Item) → new ≡ old ++ (item (get_or bs i 0) (get_or ts i 0) ∷ []) → old ≡ A ++ items bs ts i → i < length bs → i < length ts
-    → new ≡ A ++ items bs ts (i + 1)
-append_turn bs ts i A old new e f h k = e ∙ rw (f, items_more, append_assoc)
+-- What is written from n on stands behind the first n items.
+pub items_put : (bs ts xs us : List ℕ) (n m k : ℕ) (l : List Item) → n ≤ length bs → n ≤ length ts → length xs ≡ m → length us ≡ m → zip xs us ≡ l
+    → items (put_mid n k bs xs) (put_mid n k ts us) (n + m) ≡ items bs ts n ++ l
+unfolding items
+items_put bs ts xs us n m k l h g p q r =
+    let e : length (take n bs) ≡ length (take n ts) = simp length-take (omega arith) in
+    rw (← r, take-put_mid n k bs xs (n + m) (omega arith) h, take-put_mid n k ts us (n + m) (omega arith) g, zip_append (take n bs) (take n ts) xs us e)
 
--- all of them
-pub append_done : (bs ts : List ℕ) (i m : ℕ) (A new : List Item) → i ≤ m → m ≤ i → new ≡ A ++ items bs ts i → new ≡ A ++ items bs ts m
-append_done bs ts i m A new h k e = let q : i ≡ m = omega arith in rw (← q) e
+-- The first m entries of another pair.
+pub items_of_copies : (more tags xs us : List ℕ) (m : ℕ) → xs ≡ take m more → us ≡ take m tags → zip xs us ≡ items more tags m
+unfolding items
+items_of_copies more tags xs us m e f = rw (e, f)
 
--- one more of an item that is pushed again and again
-pub blanks_turn : (A old new : List Item) (x : Item) (i : ℕ) → new ≡ old ++ (x ∷ []) → old ≡ A ++ replicate i x → new ≡ A ++ replicate (i + 1) x
-blanks_turn A old new x i e f = e ∙ rw (f, append_assoc, ← replicate-append-replicate i 1 x)
+-- A part of m entries from n on has m of them.
+pub part_length : (xs : List ℕ) (n m : ℕ) → n + m ≤ length xs → length (take (n + m - n) (drop n xs)) ≡ m
+part_length xs n m h = simp (length-take, length-drop) (omega arith)
 
--- all of them
-pub blanks_done : (A new : List Item) (x : Item) (i n : ℕ) → new ≡ A ++ replicate i x → i ≤ n → n ≤ i → new ≡ A ++ replicate n x
-blanks_done A new x i n e h k = let q : i ≡ n = omega arith in rw (← q) e
+zip_replicate : (b t m : ℕ) → zip (replicate m b) (replicate m t) ≡ replicate m (item b t)
+zip_replicate b t zero = refl
+zip_replicate b t (suc m) = ap (λ (l : List Item). item b t ∷ l) (zip_replicate b t m)
 
--- One byte more with its tag.
-pub tagged_more : (t : ℕ) (part : List ℕ) (i : ℕ) → i < length part → tagged t (take (i + 1) part) ≡ tagged t (take i part) ++ (item (get_or part i 0) t ∷ [])
+zip_tagged : (t : ℕ) (part : List ℕ) → zip part (replicate (length part) t) ≡ tagged t part
 unfolding tagged
-tagged_more t part i h = rw (add-one, take-suc part i 0, tagged_append t (take i part) (get_or part i 0 ∷ []))
+zip_tagged t [] = refl
+zip_tagged t (b ∷ part) = ap (λ (l : List Item). item b t ∷ l) (zip_tagged t part)
 
--- no byte of a text
-pub text_start : (A : List Item) (t : ℕ) (part : List ℕ) → A ≡ A ++ tagged t (take 0 part)
-unfolding tagged
-text_start A t part = sym (append-nil A)
+-- A part of both buffers that is filled with one byte and one tag.
+pub zip_filled : (xs us : List ℕ) (b t m j k : ℕ) → xs ≡ replicate j b → us ≡ replicate k t → j ≡ m → k ≡ m → zip xs us ≡ replicate m (item b t)
+zip_filled xs us b t m j k e f p q = rw (e, f, p, q) (zip_replicate b t m)
 
--- one byte more of it
-pub text_turn : (A old new : List Item) (t : ℕ) (part : List ℕ) (i : ℕ) → new ≡ old ++ (item (get_or part i 0) t ∷ []) → old ≡ A ++ tagged t (take i part) → i < length part
-    → new ≡ A ++ tagged t (take (i + 1) part)
-text_turn A old new t part i e f h = e ∙ rw (f, append_assoc, tagged_more)
-
--- all of them
-pub text_done : (A new : List Item) (t : ℕ) (part : List ℕ) (i : ℕ) → new ≡ A ++ tagged t (take i part) → i ≤ length part → length part ≤ i → new ≡ A ++ tagged t part
-text_done A new t part i e h k = let q : i ≡ length part = omega arith in e ∙ ap (λ (l : List ℕ). A ++ tagged t l) (ap (λ (n : ℕ). take n part) q ∙ take-length part)
+-- A part of both buffers that holds a text and is filled with one tag.
+pub zip_text : (part xs us : List ℕ) (t k : ℕ) → xs ≡ part → us ≡ replicate k t → k ≡ length part → zip xs us ≡ tagged t part
+zip_text part xs us t k e f p = rw (e, f, p) (zip_tagged t part)
 
 -- what stands behind the bytes of one tag
 pub drop_tagged : (t : ℕ) (x : List ℕ) (l : List Item) → drop (length x) (tagged t x ++ l) ≡ l

@@ -7,11 +7,15 @@ use Prim.Native.Nat.{ℕ, suc, ◌+◌, ◌-◌, ◌%◌, ◌≤◌, ◌<◌}
 use native.Mathlib.Nat.{zero-add}
 use native.Mathlib.Numerals.{add-one}
 use native.Mathlib.Omega.{arith}
-use borrow.Author.Tests.{eq-eqb, ne_eqb, eqb-true}
+use borrow.Author.Tests.{ne_eqb, eqb-true}
 use lib.ListN.{length, take, drop, get_or, length-take, length-drop, drop_of_length-le}
 use lib.Seq.{drop-cons, drop-drop, take-length}
 use lib.Dec.{eqb}
-use Rattle.std.specs.Prelude.{if◌then◌else◌}
+use Rattle.std.specs.Prelude.{Option, Some, None, cond, if◌then◌else◌}
+use Rattle.std.specs.List.{position, position_or_len}
+use Rattle.std.proofs.lemmas.Bool.{ltb-false}
+use Rattle.std.proofs.lemmas.List.Recursion.{is_position_or_len}
+use Rattle.std.proofs.lemmas.List.Sums.{prefix_len-le-length}
 use Rattle.characters.proofs.Tests.{or_true}
 use Rattle.fields.specs.Field.{head, field}
 use Rattle.fields.specs.Store.{Wrote}
@@ -21,6 +25,34 @@ use Rattle.lines.specs.Encode.{joins, on_first, starts_with, pieces, field_of, p
 use Rattle.lines.proofs.Buffers.{zip_bytes, zip_nil}
 
 -- ---- runs
+
+-- The entries of a tag at the front end at the first other one.
+same_is : (t : ℕ) (ts : List ℕ) → same_t t ts ≡ position_or_len (λ x. not (eqb x t)) ts
+unfolding same_t
+same_is t ts = is_position_or_len (same_t t) (λ x. not (eqb x t)) refl (λ x xs. step x xs (eqb x t)) ts
+  where
+    step : (x : ℕ) (xs : List ℕ) (b : Bool) → (if b then suc (same_t t xs) else 0) ≡ cond (not b) 0 (1 + same_t t xs)
+    step x xs true = omega arith
+    step x xs false = refl
+
+from_test : (b : Bool) (n k : ℕ) (r : Option ℕ) → r ≡ cond b (Some n) None → r ≡ Some k → n ≡ k
+from_test true n k r e f = cc
+from_test false n k r e f = cc
+
+-- It is found at the place k.
+pub same_found : (t : ℕ) (ts : List ℕ) (k : ℕ) (r : Option ℕ) → r ≡ position (λ x. not (eqb x t)) ts → r ≡ Some k → same_t t ts ≡ k
+same_found t ts k r e f = same_is t ts ∙ from_test _ _ _ r e f
+
+all_pass : (b : Bool) (n : ℕ) (r : Option ℕ) → r ≡ cond b (Some n) None → r ≡ None → b ≡ false
+all_pass true n r e f = cc
+all_pass false n r e f = refl
+
+-- There is none.
+pub same_none : (t : ℕ) (ts : List ℕ) (r : Option ℕ) → r ≡ position (λ x. not (eqb x t)) ts → r ≡ None → same_t t ts ≡ length ts
+same_none t ts r e f =
+    let p = prefix_len-le-length (λ x. not (not (eqb x t))) ts in
+    let q = all_pass _ (position_or_len (λ x. not (eqb x t)) ts) r e f in
+    omega (arith, same_is t ts, p, ltb-false _ _ q)
 
 -- After a name's byte a piece goes on in a name's bytes.
 run_after_name : (l : List ℕ) → run_t name_tag l ≡ same_t name_tag l
@@ -66,22 +98,6 @@ run_at ts t i k h e =
     let r = run_of_text t (drop i ts) h in
     let d : drop k ts ≡ drop m (drop i ts) = ap (λ (n : ℕ). drop n ts) e ∙ sym (drop-drop m i ts) in
     omega (arith, ap (same_t name_tag) d, r)
-
-module _ (ts : List ℕ) (t j : ℕ) (h : j < length ts) where
-  -- one entry of the tag more
-  pub same_on : get_or ts j 0 ≡ t → same_t t (drop j ts) ≡ suc (same_t t (drop (j + 1) ts))
-  unfolding same_t
-  same_on e = rw (drop-cons ts j 0 h, add-one, eq-eqb (get_or ts j 0) t e)
-
-  -- an entry of another tag
-  pub same_off : (get_or ts j 0 ≡ t → ⊥) → same_t t (drop j ts) ≡ 0
-  unfolding same_t
-  same_off e = rw (drop-cons ts j 0 h, ne_eqb (get_or ts j 0) t e)
-
--- the line ends
-pub same_out : (ts : List ℕ) (t j : ℕ) → length ts ≤ j → same_t t (drop j ts) ≡ 0
-unfolding same_t
-same_out ts t j h = rw (drop_of_length-le ts h)
 
 -- ---- pieces
 

@@ -5,6 +5,7 @@ ghost use Rattle.lines.specs.Items.{item, items};
 ghost use Rattle.lines.specs.Bridge.{tagged};
 
 // One byte more.
+#[tactic(auto, using(crate::proofs::Buffers::items_push))]
 pub fn push_byte(bytes: &mut [u8], tags: &mut [u32], n: usize, b: u8, tag: u32) -> usize
     requires { (n < length bytes.old) × (n < length tags.old) }
     ensures value { result ≡ n + 1 }
@@ -29,13 +30,10 @@ pub fn append(
     ensures value { result ≡ n + m }
     ensures result_after { items bytes.new tags.new result ≡ items bytes.old tags.old n ++ items more.now mtags.now m }
 {
-    let mut i = 0;
-    let mut k = n;
-    while i < m {
-        k = push_byte(bytes, tags, k, more[i], mtags[i]);
-        i += 1;
-    }
-    k
+    let end = n + m;
+    bytes[n..end].copy_from_slice(&more[..m]);
+    tags[n..end].copy_from_slice(&mtags[..m]);
+    end
 }
 
 // So many spaces of one tag (`push_ws`).
@@ -44,13 +42,10 @@ pub fn push_blanks(bytes: &mut [u8], tags: &mut [u32], n: usize, count: usize, t
     ensures value { result ≡ n + count }
     ensures result_after { items bytes.new tags.new result ≡ items bytes.old tags.old n ++ replicate count (item 32 tag) }
 {
-    let mut i = 0;
-    let mut k = n;
-    while i < count {
-        k = push_byte(bytes, tags, k, 32, tag);
-        i += 1;
-    }
-    k
+    let end = n + count;
+    bytes[n..end].fill(32);
+    tags[n..end].fill(tag);
+    end
 }
 
 // Bytes of one tag (`push`).
@@ -59,11 +54,8 @@ pub fn push_text(bytes: &mut [u8], tags: &mut [u32], n: usize, text: &[u8], tag:
     ensures value { result ≡ n + length text.now }
     ensures result_after { items bytes.new tags.new result ≡ items bytes.old tags.old n ++ tagged tag text.now }
 {
-    let mut i = 0;
-    let mut k = n;
-    while i < text.len() {
-        k = push_byte(bytes, tags, k, text[i], tag);
-        i += 1;
-    }
-    k
+    let end = n + text.len();
+    bytes[n..end].copy_from_slice(text);
+    tags[n..end].fill(tag);
+    end
 }

@@ -21,14 +21,10 @@ fn same_end(tags: &[u32], i: usize, t: u32) -> usize
     ensures lower_bound { (i ≤ result) × (result ≤ length tags.now) }
     ensures value { result ≡ i + same_t t (drop i tags.now) }
 {
-    let mut j = i;
-    while j < tags.len() {
-        if tags[j] != t {
-            return j;
-        }
-        j += 1;
+    match tags[i..].iter().position(|tag| *tag != t) {
+        Some(k) => i + k,
+        None => tags.len(),
     }
-    j
 }
 
 // The end of the piece that starts at i: a mark goes on in a name's bytes, a text in entries of its tag and then in a name's bytes.

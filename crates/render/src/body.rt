@@ -13,21 +13,14 @@ use flush_word::state::State;
 use hard_wrap::error::TooNarrow;
 use hard_wrap::line::Frame;
 
-// A byte as a tag.
-pub fn tag(x: u8) -> u32
-    ensures { result ≡ x }
-{
-    x as u32
-}
-
 // The mode and the annotations of a T field.
 fn run_of(mode: u8, main: u8, wrap: u8) -> Run
     ensures { result ≡ run_of mode main wrap }
 {
     Run {
-        mode: tag(mode),
-        main: tag(main),
-        wrap: tag(wrap),
+        mode: u32::from(mode),
+        main: u32::from(main),
+        wrap: u32::from(wrap),
     }
 }
 

@@ -7,7 +7,7 @@ ghost use Rattle.flush_word.specs.Keep.{CountsWithinUnits, BuffersLongEnough};
 ghost use Rattle.render.specs.Render.{new_state, FrameSmall, FlushesWrapping, WrapsUp};
 
 use crate::body::add_fields;
-use flush_word::state::{State, no_blanks, no_word};
+use flush_word::state::{NO_BLANKS, NO_WORD, State};
 use flush_word::word::flush_word;
 use hard_wrap::error::TooNarrow;
 use hard_wrap::flush::flush_line;
@@ -31,12 +31,10 @@ fn new() -> State
         place: 5,
         lines: 0,
     };
-    let word = no_word();
-    let blanks = no_blanks();
     State {
         line,
-        word,
-        blanks,
+        word: NO_WORD,
+        blanks: NO_BLANKS,
         wrapped: false,
         used: 0,
     }

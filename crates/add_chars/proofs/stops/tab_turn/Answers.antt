@@ -13,17 +13,17 @@ pub returns-then-frame-at : goal.returns-then-frame-at
 returns-then-frame-at c =
     record {
       tab_moved = record {
-        n = omega (arith, c.flush_line-next.ensures.line_flushed);
-        cols = omega (arith, c.flush_line-next.ensures.line_flushed);
-        past = omega (arith, c.flush_line-next.ensures.line_flushed);
+        n = omega (arith, c.flush_line-line.ensures.line_flushed);
+        cols = omega (arith, c.flush_line-line.ensures.line_flushed);
+        past = omega (arith, c.flush_line-line.ensures.line_flushed);
         far = omega arith;
-        place = omega (arith, c.flush_line-next.ensures.line_flushed);
-        lines = c.flush_line-next.ensures.line_flushed.lines;
+        place = omega (arith, c.flush_line-line.ensures.line_flushed);
+        lines = c.flush_line-line.ensures.line_flushed.lines;
       };
       turns = λ d₀ base b t o k ta ann.
           record {
             next = flat_flush_line (setup c.args.frame) b;
-            holds = c.flush_line-next.ensures.flushes d₀ base b o (texted b.line k.line);
+            holds = c.flush_line-line.ensures.flushes d₀ base b o (texted b.line k.line);
             trims = trims_flush (setup c.args.frame) b k;
             same = λ fuel e. turn_edge (setup c.args.frame) t fuel _ _ b c.if-frame-at.true e;
           };

@@ -5,4 +5,4 @@ use Rattle.add_text.proofs.walk.add_collapsed.Goals as goal
 
 pub returns : goal.returns
 returns c =
-    record { walked_small = record { small = c.collapse-next.ensures.counts_within_units.0; ann = c.requires.ann; used = c.collapse-next.ensures.counts_within_units.1 }; adds_collapsed = adds_collapsed c.args.w.st _ c.args.w.ann c.requires.ann c.collapse-next.ensures.collapses }
+    record { walked_small = record { small = c.collapse-st.ensures.counts_within_units.0; ann = c.requires.ann; used = c.collapse-st.ensures.counts_within_units.1 }; adds_collapsed = adds_collapsed c.args.w.st _ c.args.w.ann c.requires.ann c.collapse-st.ensures.collapses }

@@ -6,14 +6,14 @@ use Rattle.add_text.proofs.walk.add_word_char.Goals as goal
 
 pub add_cols-requires : goal.add_cols-requires
 add_cols-requires c =
-    record { ready = (c.requires.ready.0, search rules); char_is = (c.requires.char_is.0, c.requires.char_is.1, fits_cols c.args.frame c.args.w c.args.part.now c.args.code _ _ c.requires.char_is.0 c.requires.ready.0 c.columns_of-k.ensures c.in-Cols.is c.wide.ensures.value) }
+    record { ready = (c.requires.ready.0, search rules); char_is = (c.requires.char_is.0, c.requires.char_is.1, fits_cols c.args.frame c.args.w c.args.part.now c.args.code _ _ c.requires.char_is.0 c.requires.ready.0 c.columns_of-k.ensures c.in-Cols.is c.from.ensures) }
 
 pub returns-in-Cols : goal.returns-in-Cols
 returns-in-Cols c =
     record {
       walked_small = c.add_cols.ensures.walked_small;
       adds_word_char = word_char_some c.args.frame c.args.run c.args.w c.args.part.now c.args.code _ c.args.wb.now c.args.wt.now c.add_cols.result _ _
-          (width_some c.args.code _ _ c.columns_of-k.ensures c.in-Cols.is c.wide.ensures.value) c.add_cols.ensures.adds_word_char;
+          (width_some c.args.code _ _ c.columns_of-k.ensures c.in-Cols.is c.from.ensures) c.add_cols.ensures.adds_word_char;
     }
 
 pub returns-in-Control : goal.returns-in-Control

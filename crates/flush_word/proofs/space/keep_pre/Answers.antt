@@ -3,7 +3,7 @@
 use mathlib.Core.Path.{refl}
 use native.Mathlib.Omega.{arith}
 use borrow.Author.Rules.{rules}
-use Rattle.flush_word.proofs.Flushing.{count_none, pre_kept, pre_written}
+use Rattle.flush_word.proofs.Flushing.{pre_kept, pre_written}
 use Rattle.flush_word.proofs.space.keep_pre.Goals as goal
 
 pub returns-then-left-blanks : goal.returns-then-left-blanks
@@ -22,14 +22,14 @@ returns-then-left-blanks c =
 
 pub returns : goal.returns
 returns c =
-    let z = count_none c.no_blanks-none.ensures in record {
+    record {
       dropping = record {
         n = omega (arith, c.push_blanks-n.ensures.value);
         cols = omega (arith, c.requires.counts_within_units.0, c.if-left-blanks.false);
-        count = omega (arith, z);
-        closes = omega (arith, z, c.push_blanks-n.ensures.value);
+        count = omega arith;
+        closes = omega (arith, c.push_blanks-n.ensures.value);
         place = refl;
         lines = refl;
       };
-      keeps_pre = λ d₀ base b t wb wt out o q. pre_written c.args.frame c.args.st d₀ base b t _ _ wb wt out o q _ _ _ _ c.no_blanks-none.ensures c.if-left-blanks.false c.push_blanks-n.ensures.result_after;
+      keeps_pre = λ d₀ base b t wb wt out o q. pre_written c.args.frame c.args.st d₀ base b t _ _ wb wt out o q _ _ _ _ refl c.if-left-blanks.false c.push_blanks-n.ensures.result_after;
     }

@@ -8,6 +8,6 @@ use Rattle.flush_word.proofs.space.trim_line.Goals as goal
 
 pub returns : goal.returns
 returns c =
-    let r : Open = record { n = c.trimmed_end-n.result; cols = c.less.result; place = c.args.line.place; lines = c.args.line.lines } in
-    let n : Trimmed c.args.line r = record { n = c.trimmed_end-n.ensures.upper_bound; cols = c.less.ensures; place = refl; lines = refl } in
+    let r : Open = record { n = c.trimmed_end-n.result; cols = c.saturating_sub.result; place = c.args.line.place; lines = c.args.line.lines } in
+    let n : Trimmed c.args.line r = record { n = c.trimmed_end-n.ensures.upper_bound; cols = c.saturating_sub.ensures; place = refl; lines = refl } in
     record { trimmed = n; trims_line = line_trimmed c.args.line r c.args.lb.now c.args.lt.now n c.trimmed_end-n.ensures.trims_back }

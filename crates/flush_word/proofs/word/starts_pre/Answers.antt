@@ -1,22 +1,21 @@
-use mathlib.Core.Path.{refl, sym, ap, ◌∙◌}
+-- `flush_word::word::starts_pre` meets its contract: the first text is what `find` finds. Assumes nothing.
+use mathlib.Core.Path.{ap, ◌∙◌}
 use Prim.Native.Nat.{ℕ}
 use borrow.Author.Rules.{rules}
-use lib.Dec.{eqb}
-use Rattle.flush_word.proofs.Trimming.{starts_pre_lem, pre_end, pre_here, pre_on}
+use borrow.Author.Tests.{tests}
+use lib.Dec.{eqb, ltb}
+use Rattle.std.proofs.lemmas.Iterator.{YieldsList-from_slice}
+use Rattle.std.proofs.lemmas.Iterator.Search.{find_from_yields_List}
+use Rattle.lines.specs.Items.{mark_tag}
+use Rattle.flush_word.proofs.Trimming.{starts_pre_lem, pre_found, pre_none}
 use Rattle.flush_word.proofs.word.starts_pre.Goals as goal
 
-pub loop-i-init : goal.loop-i-init
-loop-i-init c =
-    (search rules, refl)
+pub returns-in-Some : goal.returns-in-Some
+returns-in-Some c =
+    let f = find_from_yields_List (λ t. ltb t mark_tag) _ _ c.find.result c.find.ensures.ran (YieldsList-from_slice c.args.wt.now c.iter.ensures.rest) (λ x b q k. search (rules, tests)) in
+    starts_pre_lem c.args.wt.now _ (ap (λ (m : ℕ). eqb m 1) c.mode_of.ensures ∙ pre_found c.args.wt.now _ (rw c.in-Some.is at f))
 
-pub returns-then-tag-lt-MARK : goal.returns-then-tag-lt-MARK
-returns-then-tag-lt-MARK c =
-    starts_pre_lem c.args.wt.now _ (ap (λ (x : ℕ). eqb x 1) c.mode_of.ensures ∙ sym (c.loop-i.invariant.1 ∙ pre_here c.args.wt.now c.loop-i.i c.loop-i-test.true c.if-tag-lt-MARK.true))
-
-pub loop-i-preserved : goal.loop-i-preserved
-loop-i-preserved c =
-    (search rules, c.loop-i.invariant.1 ∙ pre_on c.args.wt.now c.loop-i.i c.loop-i-test.true c.if-tag-lt-MARK.false)
-
-pub returns : goal.returns
-returns c =
-    starts_pre_lem c.args.wt.now _ (sym (c.loop-i.invariant.1 ∙ pre_end c.args.wt.now c.loop-i.i c.loop-i-test.false))
+pub returns-in-None : goal.returns-in-None
+returns-in-None c =
+    let f = find_from_yields_List (λ t. ltb t mark_tag) _ _ c.find.result c.find.ensures.ran (YieldsList-from_slice c.args.wt.now c.iter.ensures.rest) (λ x b q k. search (rules, tests)) in
+    starts_pre_lem c.args.wt.now _ (pre_none c.args.wt.now (rw c.in-None.is at f))

@@ -5,7 +5,7 @@ use native.Mathlib.Omega.{arith}
 use lib.Seq.{length-take-le}
 use Rattle.std.proofs.lemmas.Result.{IfOk-from_err, MatchResult-from_err}
 use Rattle.flush_word.proofs.Wrapping.{part_len, front_inside, fronts_even, wrap_narrow, wrap_done}
-use Rattle.flush_word.proofs.Flushing.{emptied_is, small_opened}
+use Rattle.flush_word.proofs.Flushing.{small_opened}
 use Rattle.flush_word.proofs.word.wrap_word.Goals as goal
 
 pub slice_bounds-starts_pre-end : goal.slice_bounds-starts_pre-end
@@ -65,14 +65,13 @@ shape_of-out c =
 
 pub returns : goal.returns
 returns c =
-    let e = emptied_is c.emptied.ensures in
     let g = c.in_ok-last.ensures.grows in
     let m = part_len c.word_start-start.result c.args.st.word.n c.args.wb.now (omega (arith, c.requires.counts_within_units)) in
     let some_word = c.requires.counts_within_units.0.text c.requires.text_value in record {
-      stays_within_units = small_opened e c.requires.counts_within_units.0.used (omega (arith, c.requires.counts_within_units.0, m, g, c.next_line-line.ensures.opened)) g.cols (omega (arith, c.requires.counts_within_units.0, m, g, c.next_line-line.ensures.opened, some_word)) g.lines;
+      stays_within_units = small_opened refl c.requires.counts_within_units.0.used (omega (arith, c.requires.counts_within_units.0, m, g, c.next_line-line.ensures.opened)) g.cols (omega (arith, c.requires.counts_within_units.0, m, g, c.next_line-line.ensures.opened, some_word)) g.lines;
       wraps_word = λ d₀ base b o h.
           wrap_done c.args.frame c.args.st c.word_start-start.result _ _ _ c.args.wb.now c.args.wt.now _ _ _ _ _ _ _ _ c.word_start-start.ensures.starts_at c.next_line-line.ensures.opens_line c.in_ok-last.ensures.wraps d₀ base b o
-          _ _ _ _ refl e c.starts_pre-pre.ensures (omega (arith, c.requires.counts_within_units)) (omega (arith, c.requires.counts_within_units));
+          _ _ _ _ refl refl c.starts_pre-pre.ensures (omega (arith, c.requires.counts_within_units)) (omega (arith, c.requires.counts_within_units));
     }
 
 pub returns-in_err-last : goal.returns-in_err-last

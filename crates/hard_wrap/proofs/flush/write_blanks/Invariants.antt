@@ -2,8 +2,5 @@
 use Rattle.hard_wrap.proofs.Blanks.{Blanking}
 use Rattle.hard_wrap.proofs.flush.write_blanks.Given as goal
 
-abbrev pub invariant-loop-left : goal.invariant-loop-left
-invariant-loop-left l = Blanking l.frame l.initial.lb l.initial.lt l.count l.tag l.initial.out l.initial.cur l.lb l.lt l.out l.cur l.left
-
-abbrev pub decreases-loop-left : goal.decreases-loop-left
-decreases-loop-left l = l.left
+abbrev pub invariant-loop-written : goal.invariant-loop-written
+invariant-loop-written l = Blanking l.frame l.initial.lb l.initial.lt l.count l.tag l.initial.out l.initial.cur l.lb l.lt l.out l.cur l._written

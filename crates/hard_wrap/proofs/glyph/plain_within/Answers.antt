@@ -7,9 +7,9 @@ use Rattle.hard_wrap.proofs.glyph.plain_within.Goals as goal
 
 pub slice_bounds-plain_run-end : goal.slice_bounds-plain_run-end
 slice_bounds-plain_run-end c =
-    sym (length-take-le _ _ (omega (arith, c.least-end.ensures)))
+    sym (length-take-le _ _ (omega (arith, c.min-end.ensures)))
 
 pub returns : goal.returns
 returns c =
-    let n = length-take-le c.least-end.result c.args.part.now (omega (arith, c.least-end.ensures)) in
-    record { len_in_bounds = (omega (arith, c.plain_run.ensures.len_in_bounds, n, c.least-end.ensures), omega (arith, c.plain_run.ensures.len_in_bounds, n, c.least-end.ensures)); plain_run = run_whole c.args.part.now c.least-end.result c.plain_run.ensures.plain_run }
+    let n = length-take-le c.min-end.result c.args.part.now (omega (arith, c.min-end.ensures)) in
+    record { len_in_bounds = (omega (arith, c.plain_run.ensures.len_in_bounds, n, c.min-end.ensures), omega (arith, c.plain_run.ensures.len_in_bounds, n, c.min-end.ensures)); plain_run = run_whole c.args.part.now c.min-end.result c.plain_run.ensures.plain_run }

@@ -11,7 +11,7 @@ overflow_add-result c =
 pub returns : goal.returns
 returns c =
     record {
-      emptied = record { n = refl; cols = refl; place = omega (arith, c.encode_line-end.ensures.lower_bound, c.pad_line-n.ensures.upper_bound, c.requires); lines = omega (arith, c.encode_line-end.ensures.lower_bound, c.requires) };
+      emptied = record { n = refl; cols = refl; place = omega (arith, c.encode_line-place.ensures.lower_bound, c.pad_line-n.ensures.upper_bound, c.requires); lines = omega (arith, c.encode_line-place.ensures.lower_bound, c.requires) };
       force_flushes = λ d₀ base b o.
-          closes c.args.frame c.args.st _ d₀ base c.args.lb.now c.args.lt.now c.args.out.now _ _ _ b c.pad_line-n.result c.requires.default c.pad_line-n.ensures.result_after c.encode_line-end.ensures.wrote refl refl refl o;
+          closes c.args.frame c.args.st _ d₀ base c.args.lb.now c.args.lt.now c.args.out.now _ _ _ b c.pad_line-n.result c.requires.default c.pad_line-n.ensures.result_after c.encode_line-place.ensures.wrote refl refl refl o;
     }

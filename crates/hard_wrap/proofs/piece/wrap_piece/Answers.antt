@@ -232,14 +232,14 @@ returns-then-bpos-piece c =
     record {
       grows = record {
         n = omega (arith, c.put_text.ensures.longer, pl, c.loop-bpos.invariant);
-        cols = omega (arith, c.put_text.ensures.longer, c.less-used.ensures, fit, c.loop-bpos.invariant);
-        place = omega (arith, c.put_text.ensures.longer, c.less-used.ensures, fit, c.loop-bpos.invariant, c.if-bpos-piece.true);
+        cols = omega (arith, c.put_text.ensures.longer, c.saturating_sub-used.ensures, fit, c.loop-bpos.invariant);
+        place = omega (arith, c.put_text.ensures.longer, c.saturating_sub-used.ensures, fit, c.loop-bpos.invariant, c.if-bpos-piece.true);
         lines = omega (arith, c.put_text.ensures.longer, c.loop-bpos.invariant);
       };
       pieces = λ d₀ base b t cs o ta ann sc e.
           let g = c.loop-bpos.invariant.going d₀ base b t cs o ta ann sc e in
-          piece_rest (setup c.args.frame) d₀ base b t cs c.args.piece.now c.loop-bpos.cur c.loop-bpos.wpos c.loop-bpos.bpos c.loop-bpos.lb c.loop-bpos.lt c.loop-bpos.out g c.args.frame refl _ _ _ c.less-used.result c.width_of-w.result
-          (c.width_of-w.ensures.widths cs sc e) c.less-used.ensures fit c.loop-bpos.invariant.cols
+          piece_rest (setup c.args.frame) d₀ base b t cs c.args.piece.now c.loop-bpos.cur c.loop-bpos.wpos c.loop-bpos.bpos c.loop-bpos.lb c.loop-bpos.lt c.loop-bpos.out g c.args.frame refl _ _ _ c.saturating_sub-used.result c.width_of-w.result
+          (c.width_of-w.ensures.widths cs sc e) c.saturating_sub-used.ensures fit c.loop-bpos.invariant.cols
           (λ u. c.put_text.ensures.puts_text d₀ base g.next t g.q c.loop-bpos.out g.holds ta ann g.scalars (part-rest c.args.piece.now c.loop-bpos.bpos ∙ g.rest) u);
     }
 

@@ -1,24 +1,14 @@
-use mathlib.Core.List.{append-nil}
-use mathlib.Core.Path.{refl, sym}
+-- `buffer::append` meets its contract: the first m entries of the other pair stand behind the first n. Assumes nothing.
+use mathlib.Core.Path.{◌∙◌, ap}
 use native.Mathlib.Omega.{arith}
-use borrow.Author.Rules.{rules}
-use Rattle.lines.specs.Items.{items}
-use Rattle.lines.proofs.Buffers.{append_turn, append_done, items_none}
+use lib.ListN.{length}
+use lib.Seq.{length-take-le}
+use Rattle.lines.proofs.Buffers.{items_put, items_of_copies}
 use Rattle.lines.proofs.buffer.append.Goals as goal
 
-pub loop-i-init : goal.loop-i-init
-loop-i-init c =
-    (search rules, search rules, refl, refl, rw items_none (sym (append-nil _)))
-
-pub loop-i-preserved : goal.loop-i-preserved
-loop-i-preserved c = (
-  search rules,
-  search rules,
-  search rules,
-  search rules,
-  append_turn c.args.more.now c.args.mtags.now c.loop-i.i (items c.args.bytes.now c.args.tags.now c.args.n) _ _ c.push_byte-k.ensures.result_after c.loop-i.invariant.4 (search rules) (search rules),
-)
-
-pub returns : goal.returns
-returns c =
-    record { value = search rules; result_after = search (append_done, arith) }
+pub returns-clause-result_after : goal.returns-clause-result_after
+returns-clause-result_after c =
+    let bytes = c.copy_from_slice.ensures.after in
+    let tags = c.copy_from_slice-2.ensures.after in
+    items_put c.args.bytes.now c.args.tags.now _ _ c.args.n c.args.m _ _ (omega arith) (omega arith) (ap length bytes ∙ length-take-le c.args.m _ (omega arith)) (ap length tags ∙ length-take-le c.args.m _ (omega arith))
+    (items_of_copies c.args.more.now c.args.mtags.now _ _ c.args.m bytes tags)

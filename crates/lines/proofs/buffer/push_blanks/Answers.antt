@@ -1,18 +1,12 @@
-use mathlib.Core.List.{append-nil}
-use mathlib.Core.Path.{refl, sym}
-use borrow.Author.Rules.{rules}
-use Rattle.lines.specs.Items.{items, item}
-use Rattle.lines.proofs.Buffers.{blanks_turn, blanks_done}
+-- `buffer::push_blanks` meets its contract: the spaces stand behind the first n entries. Assumes nothing.
+use mathlib.Core.Path.{◌∙◌}
+use native.Mathlib.Omega.{arith}
+use Rattle.lines.proofs.Buffers.{items_put, part_length, zip_filled}
 use Rattle.lines.proofs.buffer.push_blanks.Goals as goal
 
-pub loop-i-init : goal.loop-i-init
-loop-i-init c =
-    (search rules, search rules, refl, refl, sym (append-nil _))
-
-pub loop-i-preserved : goal.loop-i-preserved
-loop-i-preserved c =
-    (search rules, search rules, search rules, search rules, blanks_turn (items c.args.bytes.now c.args.tags.now c.args.n) _ _ (item 32 c.args.tag) c.loop-i.i c.push_byte-k.ensures.result_after c.loop-i.invariant.4)
-
-pub returns : goal.returns
-returns c =
-    record { value = search rules; result_after = blanks_done (items c.args.bytes.now c.args.tags.now c.args.n) _ (item 32 c.args.tag) c.loop-i.i c.args.count c.loop-i.invariant.4 (search rules) (search rules) }
+pub returns-clause-result_after : goal.returns-clause-result_after
+returns-clause-result_after c =
+    let bytes = part_length c.args.bytes.now c.args.n c.args.count (omega arith) in
+    let tags = part_length c.args.tags.now c.args.n c.args.count (omega arith) in
+    items_put c.args.bytes.now c.args.tags.now _ _ c.args.n c.args.count _ _ (omega arith) (omega arith) (c.fill.ensures.len ∙ bytes) (c.fill-2.ensures.len ∙ tags)
+    (zip_filled _ _ 32 c.args.tag c.args.count _ _ (c.fill.ensures.after (λ y e. e)) (c.fill-2.ensures.after (λ y e. e)) bytes tags)

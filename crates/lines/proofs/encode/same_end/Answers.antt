@@ -1,24 +1,23 @@
-use mathlib.Core.Path.{refl}
+-- `encode::same_end` meets its contract: the entries of the tag end at the first other one. Assumes nothing.
+use mathlib.Core.Path.{◌∙◌}
+use mathlib.Core.Bool.{not}
 use native.Mathlib.Omega.{arith}
 use borrow.Author.Rules.{rules}
-use Rattle.lines.proofs.Pieces.{same_on, same_off, same_out}
+use borrow.Author.Tests.{tests}
+use lib.Dec.{eqb}
+use lib.ListN.{drop, length-drop}
+use Rattle.std.proofs.lemmas.Iterator.{YieldsList-from_slice}
+use Rattle.std.proofs.lemmas.Iterator.Search.{position_from_yields_List}
+use Rattle.fields.proofs.Texts.{rest}
+use Rattle.lines.proofs.Pieces.{same_found, same_none}
 use Rattle.lines.proofs.encode.same_end.Goals as goal
 
-pub loop-j-init : goal.loop-j-init
-loop-j-init c =
-    (search rules, search rules, refl)
+pub returns-in-Some-clause-value : goal.returns-in-Some-clause-value
+returns-in-Some-clause-value c =
+    let r = position_from_yields_List (λ x. not (eqb x c.args.t)) _ _ _ c.position.ensures.ran (YieldsList-from_slice (drop c.args.i c.args.tags.now) (c.iter.ensures.rest ∙ rest c.args.tags.now c.args.i)) (λ x b q k. search (rules, tests)) in
+    omega (arith, same_found c.args.t (drop c.args.i c.args.tags.now) c.in-Some.k c.position.result r c.in-Some.is)
 
-pub returns-then-tags-j : goal.returns-then-tags-j
-returns-then-tags-j c =
-    let off = same_off c.args.tags.now c.args.t c.loop-j.j (search rules) c.if-tags-j.true in
-    record { lower_bound = (search rules, search rules); value = omega (arith, off, c.loop-j.invariant) }
-
-pub loop-j-preserved : goal.loop-j-preserved
-loop-j-preserved c =
-    let on = same_on c.args.tags.now c.args.t c.loop-j.j (search rules) c.if-tags-j.false in
-    (search rules, search rules, omega (arith, on, c.loop-j.invariant))
-
-pub returns : goal.returns
-returns c =
-    let out = same_out c.args.tags.now c.args.t c.loop-j.j (search rules) in
-    record { lower_bound = (search rules, search rules); value = omega (arith, out, c.loop-j.invariant) }
+pub returns-in-None-clause-value : goal.returns-in-None-clause-value
+returns-in-None-clause-value c =
+    let r = position_from_yields_List (λ x. not (eqb x c.args.t)) _ _ _ c.position.ensures.ran (YieldsList-from_slice (drop c.args.i c.args.tags.now) (c.iter.ensures.rest ∙ rest c.args.tags.now c.args.i)) (λ x b q k. search (rules, tests)) in
+    omega (arith, length-drop c.args.i c.args.tags.now, same_none c.args.t (drop c.args.i c.args.tags.now) c.position.result r c.in-None.is)
