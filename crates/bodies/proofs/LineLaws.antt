@@ -234,7 +234,7 @@ passes_start s from to ls c =
 
 -- A field that is found is the next line.
 pub passes_on : (s : List ℕ) (from to at last count : ℕ) (holed : Bool) (letter start next : ℕ) (holed' : Bool) → Passes s from to at last count holed → at < to
-    → field_at at (drop at s) ≡ At letter start next → holed' ≡ (eqb letter 0x47 || holed) → Passes s from to next at (count + 1) holed'
+    → field_at at (drop at s) ≡ At letter start next → holed' ≡ (holed || eqb letter 0x47) → Passes s from to next at (count + 1) holed'
 passes_on s from to at last count holed l st nx holed' inv h e g ls c =
     let p = inv ls c in
     let t = first_line s at to l st nx p.after h e p.ahead in
@@ -249,9 +249,9 @@ passes_on s from to at last count holed l st nx holed' inv h e g ls c =
       counts = omega (arith, p.counts, length-append p.before (t.one ∷ []));
       bare =
           λ k.
-          let n : (eqb l 0x47 || holed) ≡ false = sym g ∙ k in
-          all_snoc unholed p.before t.one (p.bare (or_right (eqb l 0x47) holed n))
-          (line_unholed l (part st nx s) t.one t.reads (or_left (eqb l 0x47) holed n));
+          let n : (holed || eqb l 0x47) ≡ false = sym g ∙ k in
+          all_snoc unholed p.before t.one (p.bare (or_left holed (eqb l 0x47) n))
+          (line_unholed l (part st nx s) t.one t.reads (or_right holed (eqb l 0x47) n));
       last_is =
           one_at (omega (arith, f.next_is)) p.before t.one refl p.behind a
           (ap₂ (λ (x y : ℕ). read_line (whole x (part y nx s))) (sym f.letter_is) (sym f.start_is) ∙ t.reads);

@@ -55,11 +55,9 @@ pub fn walk_lines(s: &[u8], from: usize, to: usize) -> Walked
                 ..walked
             };
         };
-        walked = Walked {
-            last: Some(at),
-            count: walked.count + 1,
-            holed: letter == b'G' || walked.holed,
-        };
+        walked.last = Some(at);
+        walked.count += 1;
+        walked.holed |= letter == b'G';
         at = next;
     }
     walked
