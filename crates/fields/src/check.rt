@@ -19,7 +19,9 @@ pub fn check_fields<F: Fn(Field<'_>) -> Result<(), Refusal>>(
 {
     let mut worst = Ok(());
     for field in Fields::new(bytes) {
-        worst = first_of(worst, check(field?));
+        if let Err(refusal) = check(field?) {
+            worst = first_of(worst, Err(refusal));
+        }
     }
     worst
 }
