@@ -378,10 +378,6 @@ skip_all s at end i n p inv h k ls c =
     let d : drop n ls ≡ [] = (let q : length ls ≤ n = omega arith in drop_of_length-le ls q) in
     rw d (rw e at (inv ls c))
 
--- As many as are asked for.
-pub skip_done : (s : List ℕ) (at end i n p : ℕ) → SkipsTo s at end i p → i ≤ n → n ≤ i → SkipsTo s at end n p
-skip_done s at end i n p inv h k = let e : i ≡ n = omega arith in rw e at inv
-
 -- A line ends at the second place or before it.
 pub skip_past : (s : List ℕ) (at end i n p letter start next : ℕ) → SkipsTo s at end i p → p < end → field_at p (drop p s) ≡ At letter start next → end < next
     → SkipsTo s at end n p

@@ -1,6 +1,6 @@
 -- What drawing a border with holes does to the line that it is drawn on.
 -- Assumes nothing: these are definitions.
-use Rattle.std.specs.Prelude.{◌≡◌, Bool, true, false, List, map, ℕ, ◌+◌, ◌-◌, ◌*◌, ◌≤◌, length}
+use Rattle.std.specs.Prelude.{◌≡◌, true, false, List, map, ℕ, ◌+◌, ◌-◌, ◌*◌, ◌≤◌, length}
 use Rattle.std.proofs.Math.Option.{some}
 use Rattle.fields.specs.Field.{whole, part, all}
 use Rattle.fields.specs.Sheet.{Piece, str, read_piece, readable_piece}

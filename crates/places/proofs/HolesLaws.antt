@@ -119,10 +119,6 @@ raw_size (torn ∷ rs) = raw_size rs
 raw_size (punched p broken ∷ rs) = raw_size rs
 raw_size (punched p (whole l t) ∷ rs) = 5 + length t + raw_size rs
 
-pub raw_size-nil : raw_size [] ≡ 0
-unfolding raw_size
-raw_size-nil = refl
-
 pub raw_size-cons : (p l : ℕ) (t : List ℕ) (rs : List RawHole) → raw_size (punched p (whole l t) ∷ rs) ≡ 5 + length t + raw_size rs
 unfolding raw_size
 raw_size-cons p l t rs = refl
