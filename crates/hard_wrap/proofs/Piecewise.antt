@@ -3,9 +3,9 @@
 use mathlib.Core.Path.{◌≡◌, refl, sym, ap, ◌∙◌}
 use mathlib.Core.Option.{none}
 use mathlib.Core.List.{List, [], ◌++◌}
-use Prim.Native.Nat.{ℕ, ◌+◌, ◌-◌, ◌*◌, ◌<◌, ◌≤◌, min}
+use Prim.Native.Nat.{ℕ, ◌+◌, ◌-◌, ◌*◌, ◌^◌, ◌<◌, ◌≤◌, min}
 use native.Mathlib.Omega.{arith}
-use lib.ListN.{length, drop, length-drop}
+use lib.ListN.{length, take, drop, length-drop}
 use lib.Seq.{drop-drop}
 use Rattle.characters.specs.Columns.{str_width}
 use Rattle.characters.specs.Utf8.{text_bytes}
@@ -18,11 +18,11 @@ use Rattle.characters.proofs.Runs.{width_append}
 use Rattle.lines.specs.Bridge.{num, text}
 use Rattle.lines.proofs.Encoded.{scalars_right}
 use Rattle.lines.proofs.HardWrap.{piece_fits}
-use Rattle.hard_wrap.specs.Hold.{setup, Holds, Stepped, Pieced}
+use Rattle.hard_wrap.specs.Hold.{setup, Holds, Moved, Stepped, Pieced}
 use Rattle.hard_wrap.specs.declared.line.Frame.{Frame}
 use Rattle.hard_wrap.specs.declared.line.Open.{Open}
 use Rattle.hard_wrap.proofs.Turns.{text_drop}
-use Rattle.hard_wrap.proofs.Walks.{text_none}
+use Rattle.hard_wrap.proofs.Walks.{text_none, part_len}
 
 -- what is left of the piece
 pub record PieceLeft (s : Setup) (d₀ : List ℕ) (base : ℕ) (b : Block) (t : Tag) (cs piece : List ℕ) (cur : Open) (wpos bpos : ℕ) (lb lt out : List ℕ) : Type 0 where
@@ -95,3 +95,9 @@ pub record Walked (frame : Frame) (lb₀ lt₀ piece : List ℕ) (tag : ℕ) (ou
   pub used : wpos + 512 * (2 * (length piece - bpos) + min 1 cur.cols) ≤ 512 * (2 * length piece + 1)
   pub going : (d₀ : List ℕ) (base : ℕ) (b : Block) (t : Tag) (cs : List ℕ) → Holds d₀ base b st lb₀ lt₀ out₀ → tag ≡ num t → t.ann < 256 → Scalars cs → piece ≡ text_bytes cs
       → PieceLeft (setup frame) d₀ base b t cs piece cur wpos bpos lb lt out
+
+-- One line further, the numbers stay in bounds and the measure falls.
+pub piece_onward : {frame : Frame} {lb₀ lt₀ out₀ piece lb lt out : List ℕ} {tag wpos bpos : ℕ} {st cur : Open} → Walked frame lb₀ lt₀ piece tag out₀ st lb lt out cur wpos bpos
+    → (r : Open) (split used : ℕ) → Moved cur (length (take (length piece - bpos) (drop bpos piece))) r split used → length piece < 13107
+    → (bpos + split < 13107) × (wpos + used < 2 ^ 40) × (2 * (length piece - (bpos + split)) + min 1 r.cols < 2 * (length piece - bpos) + min 1 cur.cols)
+piece_onward {piece = piece} {bpos = bpos} w r split used m l = omega (arith, w, m, l, part_len piece bpos)

@@ -20,6 +20,16 @@ use Rattle.fields.proofs.Texts.{rest}
 pub part_len : (s : List ℕ) (at : ℕ) → length (take (length s - at) (drop at s)) ≡ length s - at
 part_len s at = ap length (rest s at) ∙ length-drop at s
 
+-- A run of plain characters stays inside the text, and within the columns that are left.
+pub run_fits : (text : List ℕ) (left at used len cols : ℕ) → at ≤ length text → used ≤ left → left < 256 → (len ≤ length (take (length text - at) (drop at text))) × (cols ≤ left - used)
+    → (at + len ≤ length text) × (used + cols ≤ left) × (used + cols < 256)
+run_fits text left at used len cols h k w r = omega (arith, part_len text at, h, k, w, r)
+
+-- The character after it stays inside the text.
+pub glyph_fits : (text : List ℕ) (at len cols : ℕ) → at ≤ length text → (0 < len) × (len ≤ length (take (length text - at) (drop at text))) × (cols ≤ 2)
+    → (0 < len) × (cols < 256) × (at + len ≤ length text)
+glyph_fits text at len cols h g = omega (arith, part_len text at, h, g)
+
 -- A text of no bytes has no characters.
 pub text_none : (cs : List ℕ) → length (text_bytes cs) ≤ 0 → cs ≡ []
 unfolding text_bytes

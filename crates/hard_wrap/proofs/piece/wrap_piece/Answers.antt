@@ -1,6 +1,6 @@
 use mathlib.Core.List.{List}
 use mathlib.Core.Path.{◌≡◌, refl, ◌∙◌}
-use Prim.Native.Nat.{ℕ, ◌+◌, ◌-◌, ◌*◌, ◌^◌, ◌≤◌, ◌<◌, min}
+use Prim.Native.Nat.{ℕ, ◌+◌, ◌-◌, ◌^◌, ◌≤◌, ◌<◌}
 use native.Mathlib.Nat.{le_of_lt, le_of_eq, le_trans, lt_of_le_of_lt, add-lt-add_of_lt_of_le}
 use native.Mathlib.Omega.{arith}
 use borrow.Author.Tests.{ltb-true}
@@ -12,8 +12,8 @@ use Rattle.characters.specs.Utf8.{text_bytes}
 use Rattle.characters.proofs.RoundTrip.{Scalars}
 use Rattle.hard_wrap.specs.Hold.{setup, Room, Moved}
 use Rattle.hard_wrap.specs.Walk.{Going, Split}
-use Rattle.hard_wrap.proofs.Piecewise.{piece_start, piece_turn, piece_stuck, piece_rest, piece_end}
-use Rattle.hard_wrap.proofs.Walks.{part_len, going_start, going_run, going_on, going_stop, going_end, split_same}
+use Rattle.hard_wrap.proofs.Piecewise.{piece_onward, piece_start, piece_turn, piece_stuck, piece_rest, piece_end}
+use Rattle.hard_wrap.proofs.Walks.{part_len, run_fits, glyph_fits, going_start, going_run, going_on, going_stop, going_end, split_same}
 use Rattle.fields.proofs.Texts.{rest as part-rest}
 use Rattle.hard_wrap.proofs.piece.wrap_piece.Goals as goal
 use Rattle.hard_wrap.proofs.piece.wrap_piece.Goals.{then-idx-rest, else-idx-rest+then-left-used, then-loop-bpos-test+else-wpos-frame, else-loop-bpos-test}
@@ -47,58 +47,44 @@ pub overflow_add-next : goal.overflow_add-next
 overflow_add-next c =
     let rest : List ℕ = take (length c.args.piece.now - c.loop-bpos.bpos) (drop c.loop-bpos.bpos c.args.piece.now) in
     let left : ℕ = c.args.frame.width - c.loop-bpos.cur.cols in
-    let fits : (c.walk.idx + c.plain_within-run.result.len ≤ length (rest))
-    × (c.walk.used + c.plain_within-run.result.cols ≤ left)
-    × (c.walk.used + c.plain_within-run.result.cols < 256) = omega (arith, part_len (rest) c.walk.idx, c.plain_within-run.ensures.len_in_bounds, c.walk.invariant.0, c.walk.invariant.1, c.requires.room.small) in
-    let inside : (0 < c.glyph-g.result.len) × (c.glyph-g.result.cols < 256)
-    × (c.walk.idx + c.plain_within-run.result.len + c.glyph-g.result.len ≤ length (rest)) = omega (arith, (fits).0, c.glyph-g.ensures.len_nonzero, part_len (rest) (c.walk.idx + c.plain_within-run.result.len)) in
+    let fits = run_fits rest left c.walk.idx c.walk.used c.plain_within-run.result.len c.plain_within-run.result.cols c.walk.invariant.0 c.walk.invariant.1 (omega (arith, c.requires.room.small)) c.plain_within-run.ensures.len_in_bounds in
+    let inside = glyph_fits rest (c.walk.idx + c.plain_within-run.result.len) c.glyph-g.result.len c.glyph-g.result.cols fits.0 c.glyph-g.ensures.len_nonzero in
     let room : Room c.args.frame c.loop-bpos.cur (length (rest)) 1 (length c.loop-bpos.lb) (length c.loop-bpos.lt) × (0 < length (rest)) × (length (rest) < 13107) = omega (arith, part_len c.args.piece.now c.loop-bpos.bpos, c.loop-bpos.invariant, c.requires, c.loop-bpos-test.true) in
-    Fits-under _ _ 13107 (lt_of_le_of_lt (inside).2 (room).2) tt
+    Fits-under _ _ 13107 (lt_of_le_of_lt inside.2 (room).2) tt
 
 pub overflow_sub-left-in-walk-2 : goal.overflow_sub-left-in-walk-2
 overflow_sub-left-in-walk-2 c =
     let rest : List ℕ = take (length c.args.piece.now - c.loop-bpos.bpos) (drop c.loop-bpos.bpos c.args.piece.now) in
     let left : ℕ = c.args.frame.width - c.loop-bpos.cur.cols in
-    let fits : (c.walk.idx + c.plain_within-run.result.len ≤ length (rest))
-    × (c.walk.used + c.plain_within-run.result.cols ≤ left)
-    × (c.walk.used + c.plain_within-run.result.cols < 256) = omega (arith, part_len (rest) c.walk.idx, c.plain_within-run.ensures.len_in_bounds, c.walk.invariant.0, c.walk.invariant.1, c.requires.room.small) in
-    omega (arith, (fits).1)
+    let fits = run_fits rest left c.walk.idx c.walk.used c.plain_within-run.result.len c.plain_within-run.result.cols c.walk.invariant.0 c.walk.invariant.1 (omega (arith, c.requires.room.small)) c.plain_within-run.ensures.len_in_bounds in
+    omega (arith, fits.1)
 
 pub overflow_add-used-in-walk : goal.overflow_add-used-in-walk
 overflow_add-used-in-walk c =
     let rest : List ℕ = take (length c.args.piece.now - c.loop-bpos.bpos) (drop c.loop-bpos.bpos c.args.piece.now) in
     let left : ℕ = c.args.frame.width - c.loop-bpos.cur.cols in
-    let fits : (c.walk.idx + c.plain_within-run.result.len ≤ length (rest))
-    × (c.walk.used + c.plain_within-run.result.cols ≤ left)
-    × (c.walk.used + c.plain_within-run.result.cols < 256) = omega (arith, part_len (rest) c.walk.idx, c.plain_within-run.ensures.len_in_bounds, c.walk.invariant.0, c.walk.invariant.1, c.requires.room.small) in
-    let inside : (0 < c.glyph-g.result.len) × (c.glyph-g.result.cols < 256)
-    × (c.walk.idx + c.plain_within-run.result.len + c.glyph-g.result.len ≤ length (rest)) = omega (arith, (fits).0, c.glyph-g.ensures.len_nonzero, part_len (rest) (c.walk.idx + c.plain_within-run.result.len)) in
-    Fits-under _ _ 512 (add-lt-add_of_lt_of_le (fits).2 (le_of_lt (inside).1)) tt
+    let fits = run_fits rest left c.walk.idx c.walk.used c.plain_within-run.result.len c.plain_within-run.result.cols c.walk.invariant.0 c.walk.invariant.1 (omega (arith, c.requires.room.small)) c.plain_within-run.ensures.len_in_bounds in
+    let inside = glyph_fits rest (c.walk.idx + c.plain_within-run.result.len) c.glyph-g.result.len c.glyph-g.result.cols fits.0 c.glyph-g.ensures.len_nonzero in
+    Fits-under _ _ 512 (add-lt-add_of_lt_of_le fits.2 (le_of_lt inside.1)) tt
 
 pub walk-smaller : goal.walk-smaller
 walk-smaller c =
     let rest : List ℕ = take (length c.args.piece.now - c.loop-bpos.bpos) (drop c.loop-bpos.bpos c.args.piece.now) in
     let left : ℕ = c.args.frame.width - c.loop-bpos.cur.cols in
-    let fits : (c.walk.idx + c.plain_within-run.result.len ≤ length (rest))
-    × (c.walk.used + c.plain_within-run.result.cols ≤ left)
-    × (c.walk.used + c.plain_within-run.result.cols < 256) = omega (arith, part_len (rest) c.walk.idx, c.plain_within-run.ensures.len_in_bounds, c.walk.invariant.0, c.walk.invariant.1, c.requires.room.small) in
-    let inside : (0 < c.glyph-g.result.len) × (c.glyph-g.result.cols < 256)
-    × (c.walk.idx + c.plain_within-run.result.len + c.glyph-g.result.len ≤ length (rest)) = omega (arith, (fits).0, c.glyph-g.ensures.len_nonzero, part_len (rest) (c.walk.idx + c.plain_within-run.result.len)) in
+    let fits = run_fits rest left c.walk.idx c.walk.used c.plain_within-run.result.len c.plain_within-run.result.cols c.walk.invariant.0 c.walk.invariant.1 (omega (arith, c.requires.room.small)) c.plain_within-run.ensures.len_in_bounds in
+    let inside = glyph_fits rest (c.walk.idx + c.plain_within-run.result.len) c.glyph-g.result.len c.glyph-g.result.cols fits.0 c.glyph-g.ensures.len_nonzero in
     omega (arith, inside)
 
 pub walk-preserved : goal.walk-preserved
 walk-preserved c =
     let rest : List ℕ = take (length c.args.piece.now - c.loop-bpos.bpos) (drop c.loop-bpos.bpos c.args.piece.now) in
     let left : ℕ = c.args.frame.width - c.loop-bpos.cur.cols in
-    let fits : (c.walk.idx + c.plain_within-run.result.len ≤ length (rest))
-    × (c.walk.used + c.plain_within-run.result.cols ≤ left)
-    × (c.walk.used + c.plain_within-run.result.cols < 256) = omega (arith, part_len (rest) c.walk.idx, c.plain_within-run.ensures.len_in_bounds, c.walk.invariant.0, c.walk.invariant.1, c.requires.room.small) in
-    let inside : (0 < c.glyph-g.result.len) × (c.glyph-g.result.cols < 256)
-    × (c.walk.idx + c.plain_within-run.result.len + c.glyph-g.result.len ≤ length (rest)) = omega (arith, (fits).0, c.glyph-g.ensures.len_nonzero, part_len (rest) (c.walk.idx + c.plain_within-run.result.len)) in
+    let fits = run_fits rest left c.walk.idx c.walk.used c.plain_within-run.result.len c.plain_within-run.result.cols c.walk.invariant.0 c.walk.invariant.1 (omega (arith, c.requires.room.small)) c.plain_within-run.ensures.len_in_bounds in
+    let inside = glyph_fits rest (c.walk.idx + c.plain_within-run.result.len) c.glyph-g.result.len c.glyph-g.result.cols fits.0 c.glyph-g.ensures.len_nonzero in
     let past : (cs : List ℕ) → Scalars cs → rest ≡ text_bytes cs
     → Going (rest) cs (c.walk.idx + c.plain_within-run.result.len) (c.walk.used + c.plain_within-run.result.cols) = λ cs v e. going_run (rest) cs c.walk.idx c.walk.used c.plain_within-run.result.len c.plain_within-run.result.cols v c.plain_within-run.ensures.plain_run (c.walk.invariant.2 cs v e) in (
-      (inside).2,
-      omega (arith, (fits).1, c.if-left-used.false),
+      inside.2,
+      omega (arith, fits.1, c.if-left-used.false),
       λ cs v e.
           going_on (rest) cs (c.walk.idx + c.plain_within-run.result.len) (c.walk.used + c.plain_within-run.result.cols) c.glyph-g.result.len c.glyph-g.result.cols v c.if-idx-rest.false c.glyph-g.ensures.shows (past cs v e),
     )
@@ -108,42 +94,31 @@ wrap_line-requires c =
     let rest : List ℕ = take (length c.args.piece.now - c.loop-bpos.bpos) (drop c.loop-bpos.bpos c.args.piece.now) in
     let room : Room c.args.frame c.loop-bpos.cur (length (rest)) 1 (length c.loop-bpos.lb) (length c.loop-bpos.lt) × (0 < length (rest)) × (length (rest) < 13107) = omega (arith, part_len c.args.piece.now c.loop-bpos.bpos, c.loop-bpos.invariant, c.requires, c.loop-bpos-test.true) in
     let left : ℕ = c.args.frame.width - c.loop-bpos.cur.cols in
-    let fits : (c.walk.idx + c.plain_within-run.result.len ≤ length (rest))
-    × (c.walk.used + c.plain_within-run.result.cols ≤ left)
-    × (c.walk.used + c.plain_within-run.result.cols < 256) = omega (arith, part_len (rest) c.walk.idx, c.plain_within-run.ensures.len_in_bounds, c.walk.invariant.0, c.walk.invariant.1, c.requires.room.small) in
-    let place : c.if-idx-rest.split ≤ length (rest) = elim c.if-idx-rest.branch [ then-idx-rest y ↦ le_trans (le_of_eq y.split-is) (fits).0 | else-idx-rest+then-left-used y ↦ le_trans (le_of_eq y.split-is) (fits).0 ] in
+    let fits = run_fits rest left c.walk.idx c.walk.used c.plain_within-run.result.len c.plain_within-run.result.cols c.walk.invariant.0 c.walk.invariant.1 (omega (arith, c.requires.room.small)) c.plain_within-run.ensures.len_in_bounds in
+    let place : c.if-idx-rest.split ≤ length (rest) = elim c.if-idx-rest.branch [ then-idx-rest y ↦ le_trans (le_of_eq y.split-is) fits.0 | else-idx-rest+then-left-used y ↦ le_trans (le_of_eq y.split-is) fits.0 ] in
     let x = room in
-    record { room = x.0; cols_le_width = (c.loop-bpos.invariant.cols, x.1, place, (fits).1) }
+    record { room = x.0; cols_le_width = (c.loop-bpos.invariant.cols, x.1, place, fits.1) }
 
 pub overflow_add-bpos : goal.overflow_add-bpos
 overflow_add-bpos c =
     let rest : List ℕ = take (length c.args.piece.now - c.loop-bpos.bpos) (drop c.loop-bpos.bpos c.args.piece.now) in
     let moved : Moved c.loop-bpos.cur (length (rest)) c.in_ok-step.step.st c.in_ok-step.step.split c.in_ok-step.step.used = c.in_ok-step.ensures.forward in
-    let onward : (c.loop-bpos.bpos + c.in_ok-step.step.split < 13107)
-    × (c.loop-bpos.wpos + c.in_ok-step.step.used < 2 ^ 40)
-    × (2 * (length c.args.piece.now - (c.loop-bpos.bpos + c.in_ok-step.step.split)) + min 1 c.in_ok-step.step.st.cols
-    < 2 * (length c.args.piece.now - c.loop-bpos.bpos) + min 1 c.loop-bpos.cur.cols) = omega (arith, moved, c.loop-bpos.invariant, c.requires, part_len c.args.piece.now c.loop-bpos.bpos) in
-    Fits-under _ _ 13107 (onward).0 tt
+    let onward = piece_onward c.loop-bpos.invariant c.in_ok-step.step.st c.in_ok-step.step.split c.in_ok-step.step.used moved (omega arith) in
+    Fits-under _ _ 13107 onward.0 tt
 
 pub overflow_add-wpos-in-loop-bpos : goal.overflow_add-wpos-in-loop-bpos
 overflow_add-wpos-in-loop-bpos c =
     let rest : List ℕ = take (length c.args.piece.now - c.loop-bpos.bpos) (drop c.loop-bpos.bpos c.args.piece.now) in
     let moved : Moved c.loop-bpos.cur (length (rest)) c.in_ok-step.step.st c.in_ok-step.step.split c.in_ok-step.step.used = c.in_ok-step.ensures.forward in
-    let onward : (c.loop-bpos.bpos + c.in_ok-step.step.split < 13107)
-    × (c.loop-bpos.wpos + c.in_ok-step.step.used < 2 ^ 40)
-    × (2 * (length c.args.piece.now - (c.loop-bpos.bpos + c.in_ok-step.step.split)) + min 1 c.in_ok-step.step.st.cols
-    < 2 * (length c.args.piece.now - c.loop-bpos.bpos) + min 1 c.loop-bpos.cur.cols) = omega (arith, moved, c.loop-bpos.invariant, c.requires, part_len c.args.piece.now c.loop-bpos.bpos) in
-    Fits-under _ _ (2 ^ 40) (onward).1 tt
+    let onward = piece_onward c.loop-bpos.invariant c.in_ok-step.step.st c.in_ok-step.step.split c.in_ok-step.step.used moved (omega arith) in
+    Fits-under _ _ (2 ^ 40) onward.1 tt
 
 pub loop-bpos-smaller : goal.loop-bpos-smaller
 loop-bpos-smaller c =
     let rest : List ℕ = take (length c.args.piece.now - c.loop-bpos.bpos) (drop c.loop-bpos.bpos c.args.piece.now) in
     let moved : Moved c.loop-bpos.cur (length (rest)) c.in_ok-step.step.st c.in_ok-step.step.split c.in_ok-step.step.used = c.in_ok-step.ensures.forward in
-    let onward : (c.loop-bpos.bpos + c.in_ok-step.step.split < 13107)
-    × (c.loop-bpos.wpos + c.in_ok-step.step.used < 2 ^ 40)
-    × (2 * (length c.args.piece.now - (c.loop-bpos.bpos + c.in_ok-step.step.split)) + min 1 c.in_ok-step.step.st.cols
-    < 2 * (length c.args.piece.now - c.loop-bpos.bpos) + min 1 c.loop-bpos.cur.cols) = omega (arith, moved, c.loop-bpos.invariant, c.requires, part_len c.args.piece.now c.loop-bpos.bpos) in
-    (onward).2
+    let onward = piece_onward c.loop-bpos.invariant c.in_ok-step.step.st c.in_ok-step.step.split c.in_ok-step.step.used moved (omega arith) in
+    onward.2
 
 pub loop-bpos-preserved : goal.loop-bpos-preserved
 loop-bpos-preserved c =
