@@ -8,7 +8,7 @@ ghost use Rattle.checks.specs.Walk.{past_refusal};
 use fields::field::{first_of, wide};
 use fields::judge::{all_segments, piece_refusal};
 use fields::width::text_width;
-use places::hole::{HoleAt, hole_at};
+use places::holes::Holes;
 
 // Refusal 1 for a hole that ends past the last segment.
 fn past_refusal(segments: usize, end: usize) -> u8
@@ -40,29 +40,15 @@ fn holes_refusal(content: &[u8], from: usize, segments: usize) -> u8
     requires { length content.now < 65536 }
     ensures { result ≡ holes_refusal segments (raw_holes (drop from content.now)) }
 {
-    let mut at = from;
     let mut worst: u8 = 0;
-    loop {
-        let h = hole_at(content, at);
-        match h {
-            HoleAt::At {
-                place,
-                letter,
-                start,
-                next,
-            } => {
-                let n = hole_refusal(segments, place, letter, &content[start..next]);
-                worst = first_of(worst, n);
-                at = next;
-            }
-            HoleAt::Broken => {
-                return 1;
-            }
-            HoleAt::End => {
-                return worst;
-            }
-        }
+    for hole in Holes::new(content, from) {
+        let Ok(hole) = hole else {
+            return 1;
+        };
+        let n = hole_refusal(segments, usize::from(hole.place), hole.letter, hole.content);
+        worst = first_of(worst, n);
     }
+    worst
 }
 
 // The content of a G field: an annotation, the number of segments in two bytes, the segments, and at least one hole.
