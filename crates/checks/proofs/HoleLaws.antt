@@ -22,7 +22,7 @@ use Rattle.fields.proofs.Texts.{rest}
 use Rattle.fields.specs.Spans.{Hole, hole, RawHole, punched, torn, raw_holes_f, raw_holes, read_hole, read_holes, holed, read_holed, read_line, readable_line}
 use Rattle.fields.specs.SpanRefusals.{judged_hole, hole_refusal, holes_refusal, line_refusal}
 use Rattle.rows.proofs.Refusing.{holed_line}
-use Rattle.places.proofs.HoleLaws.{holes_nil}
+use Rattle.places.proofs.HolesLaws.{holes_nil}
 use Rattle.checks.specs.Walk.{past_refusal}
 
 -- ---- one hole
@@ -90,36 +90,35 @@ hole_text n p l w c e k ew =
 
 -- ---- the holes from a place on: the worst so far and those left give x
 
-abbrev pub HoleWalk : ℕ → ℕ → List ℕ → ℕ → ℕ → Type 0
-HoleWalk n x s at worst = first_of worst (holes_refusal n (raw_holes (drop at s))) ≡ x
+abbrev pub HoleWalk : ℕ → ℕ → List RawHole → ℕ → Type 0
+HoleWalk n x left worst = first_of worst (holes_refusal n left) ≡ x
 
 -- where the walk starts
-pub holes_start : (n : ℕ) (s : List ℕ) (at : ℕ) → HoleWalk n (holes_refusal n (raw_holes (drop at s))) s at 0
+pub holes_start : (n : ℕ) (left rs : List RawHole) → left ≡ rs → HoleWalk n (holes_refusal n rs) left 0
 unfolding first_of
-holes_start n s at = refl
+holes_start n left rs e = rw e refl
 
-module _ (n x : ℕ) (s : List ℕ) (at worst : ℕ) (w : HoleWalk n x s at worst) where
+module _ (n x : ℕ) (left : List RawHole) (worst : ℕ) (w : HoleWalk n x left worst) where
   -- a hole, judged, is behind
-  pub holes_on : (r : RawHole) (next m : ℕ) → raw_holes (drop at s) ≡ r ∷ raw_holes (drop next s) → m ≡ hole_refusal n r
-      → HoleWalk n x s next (first_of worst m)
+  pub holes_on : (r : RawHole) (more : List RawHole) (m : ℕ) → left ≡ r ∷ more → m ≡ hole_refusal n r → HoleWalk n x more (first_of worst m)
   unfolding holes_refusal
-  holes_on r next m e k =
-      first_assoc worst m (holes_refusal n (raw_holes (drop next s)))
-      ∙ ap (λ (y : ℕ). first_of worst (first_of y (holes_refusal n (raw_holes (drop next s))))) k
+  holes_on r more m e k =
+      first_assoc worst m (holes_refusal n more)
+      ∙ ap (λ (y : ℕ). first_of worst (first_of y (holes_refusal n more))) k
       ∙ sym (ap (λ (rs : List RawHole). first_of worst (holes_refusal n rs)) e)
       ∙ w
 
   -- a rest that is no hole is refusal 1
-  pub holes_broken : raw_holes (drop at s) ≡ torn ∷ [] → 1 ≡ x
+  pub holes_torn : (more : List RawHole) → left ≡ torn ∷ more → 1 ≡ x
   unfolding holes_refusal hole_refusal read_hole
-  holes_broken e =
+  holes_torn more e =
       sym (first_one worst)
-      ∙ ap (first_of worst) (sym (one_first 0))
+      ∙ ap (first_of worst) (sym (one_first (holes_refusal n more)))
       ∙ sym (ap (λ (rs : List RawHole). first_of worst (holes_refusal n rs)) e)
       ∙ w
 
   -- nothing is left
-  pub holes_end : raw_holes (drop at s) ≡ [] → worst ≡ x
+  pub holes_end : left ≡ [] → worst ≡ x
   unfolding holes_refusal
   holes_end e = sym (first_zero worst) ∙ sym (ap (λ (rs : List RawHole). first_of worst (holes_refusal n rs)) e) ∙ w
 

@@ -11,7 +11,7 @@ use fields::judge::{all_segments, check_piece};
 use fields::raw::Field;
 use fields::refusal::{Refusal, first_of};
 use fields::width::text_width;
-use places::hole::{HoleAt, hole_at};
+use places::holes::Holes;
 
 // A hole that ends past the last segment is a crooked record.
 fn check_end(segments: usize, end: usize) -> Result<(), Refusal>
@@ -37,32 +37,21 @@ fn check_hole(segments: usize, place: usize, field: Field<'_>) -> Result<(), Ref
 }
 
 // The refusal that is given first of all holes of a border of so many segments; a rest that is no hole is a crooked record.
-#[tactic(auto, using(fields::proofs::Parts::part_length))]
 fn check_holes(holes: &[u8], segments: usize) -> Result<(), Refusal>
-    requires { length holes.now < 65536 }
     ensures { number_of result ≡ holes_refusal segments (raw_holes holes.now) }
 {
-    let mut at = 0;
     let mut worst = Ok(());
-    loop {
-        match hole_at(holes, at) {
-            HoleAt::At {
-                place,
-                letter,
-                start,
-                next,
-            } => {
-                let field = Field {
-                    letter,
-                    content: &holes[start..next],
-                };
-                worst = first_of(worst, check_hole(segments, place, field));
-                at = next;
-            }
-            HoleAt::Broken => return Err(Refusal::CrookedRecord),
-            HoleAt::End => return worst,
-        }
+    for hole in Holes::new(holes, 0) {
+        let Ok(hole) = hole else {
+            return Err(Refusal::CrookedRecord);
+        };
+        let field = Field {
+            letter: hole.letter,
+            content: hole.content,
+        };
+        worst = first_of(worst, check_hole(segments, usize::from(hole.place), field));
     }
+    worst
 }
 
 // The content of a G field: an annotation, the number of segments in two bytes, the segments, and at least one hole.

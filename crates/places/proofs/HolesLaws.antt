@@ -36,7 +36,7 @@ holes_short (p ∷ q ∷ l ∷ []) k h = refl
 holes_short (p ∷ q ∷ l ∷ x ∷ []) k h = refl
 holes_short (p ∷ q ∷ l ∷ x ∷ o ∷ bs) k h = absurd (omega arith)
 
-pub cut : (p q l h o n : ℕ) (rest : List ℕ) → n ≡ h * 256 + o → length rest < n → raw_holes (p ∷ q ∷ l ∷ h ∷ o ∷ rest) ≡ torn ∷ []
+cut : (p q l h o n : ℕ) (rest : List ℕ) → n ≡ h * 256 + o → length rest < n → raw_holes (p ∷ q ∷ l ∷ h ∷ o ∷ rest) ≡ torn ∷ []
 unfolding raw_holes raw_holes_f
 cut p q l h o n rest e k = rw (← e, lt-leb n (length rest) k)
 

@@ -1,3 +1,2 @@
 pub mod HolesLaws
-pub mod HoleLaws
 pub mod BorderLaws

@@ -1,3 +1,2 @@
-pub mod Hole
 pub mod Holes
 pub mod Border

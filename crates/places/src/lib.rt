@@ -2,5 +2,4 @@
 #![tactic(auto)]
 
 pub mod border;
-pub mod hole;
 pub mod holes;
