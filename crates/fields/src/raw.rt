@@ -1,6 +1,9 @@
 // A field as it stands in a list of bytes.
 ghost use Rattle.std.specs.Prelude.{◌<◌, length};
 
+use std::error::Error;
+use std::fmt;
+
 // A whole field: its letter and its content, which is as long as two bytes can say.
 #[derive(Clone, Copy)]
 pub struct Field<'a> {
@@ -10,5 +13,13 @@ pub struct Field<'a> {
 }
 
 // A rest that is no field.
-#[derive(Clone, Copy, Debug, PartialEq, Eq)]
+#[derive(Clone, Copy, Debug, PartialEq, Eq, Drop)]
 pub struct Broken;
+
+impl fmt::Display for Broken {
+    fn fmt<W: fmt::Write>(&self, f: &mut fmt::Formatter<W>) -> fmt::Result {
+        f.write_str("broken")
+    }
+}
+
+impl Error for Broken {}

@@ -6,11 +6,11 @@ use denote.Ref.{Bor}
 use Rattle.fields.specs.Field.{whole}
 use Rattle.fields.specs.Spans.{RawHole, punched, torn, raw_holes}
 use Rattle.places.specs.declared.holes.Hole.{Hole}
-use Rattle.places.specs.declared.holes.Torn.{Torn}
+use Rattle.fields.specs.declared.raw.Broken.{Broken}
 use Rattle.places.specs.declared.holes.Holes.{Holes}
 
 -- what an item is by the definitions: a place with a field, or a rest that is no hole
-abbrev pub raw_item : Result Hole Torn → RawHole
+abbrev pub raw_item : Result Hole Broken → RawHole
 raw_item (Ok h) = punched h.place (whole h.letter h.content.now)
 raw_item (Err e) = torn
 

@@ -2,6 +2,8 @@
 ghost use Rattle.std.specs.Prelude.{◌≡◌, [], ◌∷◌, ◌+◌, ◌<◌, length};
 ghost use Rattle.fields.specs.Field.{whole, raws};
 
+use fields::raw::Broken;
+
 // A hole: the column where it begins, and the text or the name that stands there, as a letter with a content and as the whole field.
 #[derive(Clone, Copy)]
 pub struct Hole<'a> {
@@ -13,10 +15,6 @@ pub struct Hole<'a> {
     pub ghost size: { length field.now ≡ length content.now + 3 },
     pub ghost one_field: { raws field.now ≡ whole letter content.now ∷ [] },
 }
-
-// A rest that is no hole.
-#[derive(Clone, Copy, Debug, PartialEq, Eq)]
-pub struct Torn;
 
 // The holes that are left. A rest that is no hole is given once, and ends them.
 #[derive(Clone, Copy)]
@@ -61,19 +59,19 @@ impl<'a> Iterator for Holes<'a> {
     ghost use Rattle.std.specs.Iterator.{YieldsFirstBy, item_count};
     ghost use Rattle.places.specs.Holes.{raw_item, holes_left};
 
-    type Item = Result<Hole<'a>, Torn>;
+    type Item = Result<Hole<'a>, Broken>;
 
     ghost next_gives = { YieldsFirstBy raw_item holes_left };
 
     ghost remaining = { item_count holes_left };
 
-    fn next(&mut self) -> Option<Result<Hole<'a>, Torn>> {
+    fn next(&mut self) -> Option<Result<Hole<'a>, Broken>> {
         if self.rest.is_empty() {
             return None;
         }
         let Some((hole, rest)) = Self::split(self.rest) else {
             self.rest = &[];
-            return Some(Err(Torn));
+            return Some(Err(Broken));
         };
         self.rest = rest;
         Some(Ok(hole))

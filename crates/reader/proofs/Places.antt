@@ -21,7 +21,7 @@ use Rattle.fields.specs.Spans.{RawHole, punched, torn, raw_holes_f, raw_holes}
 use Rattle.fields.proofs.Fields.{FieldIs, field_is, field_broken, field_end, at_end_lem}
 use Rattle.fields.proofs.Parts.{part_length}
 use Rattle.fields.proofs.SpansBack.{holes_cons}
-use Rattle.reader.specs.declared.walk.Broken.{Broken}
+use Rattle.fields.specs.declared.raw.Broken.{Broken}
 use Rattle.reader.specs.declared.walk.Found.{Found}
 use Rattle.reader.specs.declared.walk.Walk.{Walk}
 use Rattle.reader.specs.Reading.{Reading, not_one, items, first_size, items_size, size_then, field_size, FieldIn, ItemIn, ahead, next_place, piece_of, holes}

@@ -24,7 +24,7 @@ use Rattle.fields.proofs.Readings.{read_first, read_none}
 use Rattle.fields.proofs.Parts.{part_length}
 use Rattle.fields.specs.Spans as spans
 use Rattle.fields.specs.Spans.{Hole, hole, RenderLine, Hanging, hanging, Sheet, sheet_of, RawHole, punched, torn, raw_holes_f, raw_holes, read_hole, read_holes, ends_within, holed, read_holed, read_border, is_span, read_hanging_content, before_hanging, from_hanging, before_names, from_names, parts, counted, read_parts, read_headed, read_sheet}
-use Rattle.reader.specs.declared.walk.Broken.{Broken}
+use Rattle.fields.specs.declared.raw.Broken.{Broken}
 use Rattle.reader.specs.Reading.{Reading, SeenLine, items, items_size, size_then, field_size, text, border, holes, item_then, seen, piece_of, read_piece, read_line, in_cell, read_cell_line, read_name, read_hanging, from_lines, lines_end, names_end, whole_line, whole_hanging, walked, WalksBack}
 use Rattle.reader.proofs.Places.{found}
 

@@ -8,7 +8,7 @@ use Rattle.fields.specs.Sheet.{str, fragment}
 use Rattle.fields.specs.declared.field.Field.TheVariants as field
 use Rattle.fields.specs.Spans as spans
 use Rattle.fields.specs.Spans.{RawHole, punched, torn, raw_holes, read_sheet}
-use Rattle.reader.specs.declared.walk.Broken.{Broken}
+use Rattle.fields.specs.declared.raw.Broken.{Broken}
 use Rattle.reader.specs.declared.walk.Found.{Found}
 use Rattle.reader.specs.declared.walk.Walk.{Walk}
 use Rattle.reader.specs.declared.piece.Piece.{Piece}

@@ -2,25 +2,12 @@
 ghost use Rattle.std.specs.Prelude.{◌≡◌, ◌+◌, ℕ, List, Option, Result, drop, length, false};
 ghost use Rattle.std.specs.Iterator.{YieldsFirstBy, item_count};
 ghost use Rattle.fields.specs.Field.{raws};
-ghost use Rattle.reader.specs.declared.walk.Broken.{Broken};
+ghost use Rattle.fields.specs.declared.raw.Broken.{Broken};
 ghost use Rattle.reader.specs.Reading.{seen, all_seen, left, next_place, end_place, Finds, Reads, items, items_size};
 
 use fields::field::{Field, field_at};
-use std::error::Error;
-use std::fmt;
+pub use fields::raw::Broken;
 use std::marker::PhantomData;
-
-// What stands at a place is not what is read there.
-#[derive(Clone, Copy, Debug, PartialEq, Eq, Drop)]
-pub struct Broken;
-
-impl fmt::Display for Broken {
-    fn fmt<W: fmt::Write>(&self, f: &mut fmt::Formatter<W>) -> fmt::Result {
-        f.write_str("broken")
-    }
-}
-
-impl Error for Broken {}
 
 // What a field can be read as: a piece, a line, a name or a hanging cell.
 pub trait FromField<'a>: Drop {
