@@ -1,28 +1,25 @@
--- The laws of lines that are copied: one line, a row of fields, and the length of a field.
+-- The laws of lines that are copied: one line, and a row of fields.
 -- Assumes nothing.
-use mathlib.Core.Path.{◌≡◌, refl, sym, ap, subst, ◌∙◌}
+use mathlib.Core.Path.{◌≡◌, refl, sym, ap, ◌∙◌}
 use mathlib.Core.Bool.{Bool, true, false, not, ◌||◌}
 use mathlib.Core.Option.{Option, none, some, map, some-injective}
 use mathlib.Core.List.{List, [], ◌∷◌, ◌++◌, append_assoc, append-nil}
 use Prim.Native.Nat.{ℕ, suc, ◌+◌, ◌-◌, ◌≤◌, ◌<◌}
 use native.Mathlib.Omega.{arith}
 use borrow.Author.Tests.{le-leb}
-use lib.ListN.{length, take, drop}
-use Rattle.fields.specs.Field.{head, field, whole, broken, raws, both, read_all, Short}
+use lib.ListN.{length}
+use Rattle.fields.specs.Field.{head, field, Raw, whole, broken, raws, both, read_all}
 use Rattle.fields.specs.Sheet.{Piece, read_piece, pieces_bytes}
 use Rattle.fields.specs.Store.{Wrote}
-use Rattle.fields.specs.declared.field.Field.{Field}
-use Rattle.fields.specs.declared.field.Field.TheVariants.{At}
-use Rattle.fields.proofs.Fields.{FieldIs}
+use Rattle.fields.proofs.Back.{Every}
 use Rattle.fields.proofs.Sets.{wrote_before}
 use Rattle.block.proofs.Bounds.{length_field}
-use Rattle.rows.proofs.Reading.{some_of, Bytes}
+use Rattle.rows.proofs.Reading.{some_of, Bytes, OfBytes, splits}
 use Rattle.fields.specs.Spans.{RenderLine, text, read_line, content, letter as line-letter}
 use Rattle.rows.specs.Answer.{fits}
 use Rattle.rows.proofs.Same.{line_same}
 use Rattle.tagged_line.specs.Pieces.{Copies}
-use Rattle.tagged_line.proofs.Laying.{content_size}
-use Rattle.extend_lines.specs.Emitted.{Emitted, InBounds, OneLineMore, CopiesLine, CopiesLines}
+use Rattle.extend_lines.specs.Emitted.{Emitted, InBounds, OneLineMore, CopiesLine, CopiesFields}
 use Rattle.extend_lines.specs.declared.line.Lines.{Lines}
 use Rattle.extend_lines.proofs.Emitting.{one_more, wrote_length, field_bytes}
 
@@ -40,9 +37,9 @@ short_more a r t e f = e ∙ rw f (sym (or_false a))
 pub copies_text : (out mid out' : List ℕ) (p r : Lines) (letter : ℕ) (bytes : List ℕ) (next : ℕ) → letter ≡ 0x4C → length bytes < 65536
     → r.count ≡ p.count + 1 → r.long ≡ p.long → r.at ≤ p.at + 3 + length bytes
     → Copies out (p.at + 3) bytes mid r.at → length mid ≡ length out
-    → Wrote mid p.at (head 0x4C (r.at - (p.at + 3))) out' next → CopiesLine out p letter bytes out' r
+    → Wrote mid p.at (head 0x4C (r.at - (p.at + 3))) out' next → CopiesLine out p (whole letter bytes) out' r
 unfolding read_line
-copies_text out mid out' p r letter bytes next is few count long most copies same w l read st ls e =
+copies_text out mid out' p r letter bytes next is few count long most copies same w l read known st ls e =
     go (read_all read_piece (raws bytes)) refl (rw is at read)
   where
     go : (q : Option (List Piece)) → read_all read_piece (raws bytes) ≡ q → map text q ≡ some l → Emitted st (ls ++ (l ∷ [])) [] [] out' r
@@ -57,9 +54,9 @@ copies_text out mid out' p r letter bytes next is few count long most copies sam
         (λ _. rw (field_bytes 0x4C (pieces_bytes ps)) (wrote_before v (rw n at w))))
 
 -- A line as it stands: its field's bytes are the line's.
-pub copies_border : (out out' : List ℕ) (p r : Lines) (letter : ℕ) (bytes : List ℕ) → Bytes bytes → length bytes < 65536
-    → r.count ≡ p.count + 1 → r.long ≡ p.long → Wrote out p.at (field letter bytes) out' r.at → CopiesLine out p letter bytes out' r
-copies_border out out' p r letter bytes k few count long w l read st ls e =
+pub copies_border : (out out' : List ℕ) (p r : Lines) (letter : ℕ) (bytes : List ℕ) → length bytes < 65536
+    → r.count ≡ p.count + 1 → r.long ≡ p.long → Wrote out p.at (field letter bytes) out' r.at → CopiesLine out p (whole letter bytes) out' r
+copies_border out out' p r letter bytes few count long w l read k st ls e =
     let same : field (line-letter l) (content l) ≡ field letter bytes =
     some_of (λ (x : RenderLine). field (line-letter x) (content x) ≡ field letter bytes) (read_line (whole letter bytes)) l read (line_same letter bytes k) in
     let n : length (content l) ≡ length bytes = omega (arith, ap length same, length_field (line-letter l) (content l), length_field letter bytes) in
@@ -73,77 +70,81 @@ field_most out out' at letter bytes next w = omega (arith, length_field letter b
 -- ---- a row of fields
 
 -- No field more.
-pub copies_none : (out : List ℕ) (p : Lines) (body : List ℕ) → raws body ≡ [] → CopiesLines out p body out p
+copies_none : (out : List ℕ) (p : Lines) → CopiesFields out p [] out p
 unfolding read_all
-copies_none out p body is new read st ls e =
-    let n : [] ≡ new = some-injective [] new (rw is at read) in
+copies_none out p new read st ls e =
+    let n : [] ≡ new = some-injective [] new read in
     rw (← n, append-nil ls) e
 
 -- A rest that is no field reads as no lines.
-pub copies_broken : (out : List ℕ) (p : Lines) (body : List ℕ) → raws body ≡ broken ∷ [] → CopiesLines out p body out p
+copies_broken : (out out' : List ℕ) (p r : Lines) (rest : List Raw) → CopiesFields out p (broken ∷ rest) out' r
 unfolding read_all read_line
-copies_broken out p body is new read st ls e =
-    let f : none ≡ some new = rw is at read in
-    absurd (let z : ◌≡◌ {A = ℕ} 0 1 = cc in omega arith)
+copies_broken out out' p r rest new read st ls e = absurd (let z : ◌≡◌ {A = ℕ} 0 1 = cc in omega arith)
 
 -- A field, and those after it.
-pub copies_on : (out mid out' : List ℕ) (p q r : Lines) (body rest : List ℕ) (letter : ℕ) (bytes : List ℕ) → raws body ≡ whole letter bytes ∷ raws rest
-    → CopiesLine out p letter bytes mid q → CopiesLines mid q rest out' r → CopiesLines out p body out' r
+copies_on : (out mid out' : List ℕ) (p q r : Lines) (field : Raw) (rest : List Raw)
+    → OfBytes field → CopiesLine out p field mid q → CopiesFields mid q rest out' r → CopiesFields out p (field ∷ rest) out' r
 unfolding read_all
-copies_on out mid out' p q r body rest letter bytes is one others new read st ls e =
-    go (read_line (whole letter bytes)) (read_all read_line (raws rest)) refl refl (rw is at read)
+copies_on out mid out' p q r field rest known one others new read st ls e = go (read_line field) (read_all read_line rest) refl refl read
   where
-    go : (x : Option RenderLine) (xs : Option (List RenderLine)) → read_line (whole letter bytes) ≡ x → read_all read_line (raws rest) ≡ xs
+    go : (x : Option RenderLine) (xs : Option (List RenderLine)) → read_line field ≡ x → read_all read_line rest ≡ xs
         → both x xs ≡ some new → Emitted st (ls ++ new) [] [] out' r
     go none xs f g h = absurd (let z : ◌≡◌ {A = ℕ} 0 1 = cc in omega arith)
     go (some l) none f g h = absurd (let z : ◌≡◌ {A = ℕ} 0 1 = cc in omega arith)
     go (some l) (some left) f g h =
         let n : l ∷ left ≡ new = some-injective (l ∷ left) new h in
-        rw (← n, ← append_assoc ls (l ∷ []) left) (others left g st (ls ++ (l ∷ [])) (one l f st ls e))
+        rw (← n, ← append_assoc ls (l ∷ []) left) (others left g st (ls ++ (l ∷ [])) (one l f known st ls e))
 
 -- ---- a loop over them
 
--- The fields before a place are copied, and those from it on are left.
-pub record Walk (out₀ : List ℕ) (p : Lines) (body out : List ℕ) (q : Lines) (at : ℕ) : Type 0 where
+-- the fields of bytes hold bytes
+pub fields_known : (bs : List ℕ) → Bytes bs → Every OfBytes (raws bs)
+fields_known bs k = (splits bs k).0
+
+-- Some fields are copied, and the others are left.
+pub record Walk (out₀ : List ℕ) (p : Lines) (all : List Raw) (out : List ℕ) (q : Lines) (left : List Raw) : Type 0 where
   pub size : length out ≡ length out₀
-  pub inside : at ≤ length body
+  pub known : Every OfBytes left
   pub bounds : InBounds q
-  pub count : q.count + length (raws (drop at body)) ≡ p.count + length (raws body)
-  pub lines : (out' : List ℕ) (r : Lines) → CopiesLines out q (drop at body) out' r → CopiesLines out₀ p body out' r
+  pub count : q.count + length left ≤ p.count + length all
+  pub lines : (out' : List ℕ) (r : Lines) → CopiesFields out q left out' r → CopiesFields out₀ p all out' r
 
-pub walk_start : (out : List ℕ) (p : Lines) (body : List ℕ) → InBounds p → Walk out p body out p 0
-walk_start out p body h = record { size = refl; inside = omega arith; bounds = h; count = refl; lines = λ out' r others. others }
+pub walk_start : (out : List ℕ) (p : Lines) (all left : List Raw) → InBounds p → Every OfBytes all → left ≡ all → Walk out p all out p left
+walk_start out p all left h k e = rw e (record { size = refl; known = k; bounds = h; count = omega arith; lines = λ out' r others. others })
 
-pub walk_on : (out₀ : List ℕ) (p : Lines) (body out : List ℕ) (q : Lines) (at letter start next : ℕ) (out' : List ℕ) (r : Lines)
-    → Walk out₀ p body out q at → p.count + length (raws body) < 1000000 → FieldIs body at letter start next
-    → OneLineMore q r → length out' ≡ length out → CopiesLine out q letter (take (next - start) (drop start body)) out' r → Walk out₀ p body out' r next
-walk_on out₀ p body out q at letter start next out' r w few f more same one =
-    let n : length (raws (drop at body)) ≡ suc (length (raws (drop next body))) = ap length f.fields in
+-- A line is copied.
+pub walk_on : (out₀ : List ℕ) (p : Lines) (all : List Raw) (out : List ℕ) (q : Lines) (left : List Raw) (field : Raw) (rest : List Raw) (out' : List ℕ) (r : Lines)
+    → Walk out₀ p all out q left → p.count + length all < 1000000 → left ≡ field ∷ rest
+    → OneLineMore q r → length out' ≡ length out → CopiesLine out q field out' r → Walk out₀ p all out' r rest
+walk_on out₀ p all out q left field rest out' r w few is more same one =
+    let n : length left ≡ suc (length rest) = ap length is in
+    let known : Every OfBytes (field ∷ rest) = rw is at w.known in
     record {
       size = same ∙ w.size;
-      inside = f.inside;
+      known = known.1;
       bounds = record {
         at = omega (arith, w.bounds.at, more.at, more.count);
         count = omega (arith, n, w.count, few, more.count);
       };
       count = omega (arith, n, w.count, more.count);
-      lines = λ out'' z others. w.lines out'' z (copies_on out out' out'' q r z (drop at body) (drop next body) letter (take (next - start) (drop start body)) f.fields one others);
+      lines = λ out'' z others. w.lines out'' z (rw is (copies_on out out' out'' q r z field rest known.0 one others));
     }
 
--- The end: no field is left, or a rest that is none.
-pub walk_end_lem : (out₀ : List ℕ) (p : Lines) (body out : List ℕ) (q : Lines) (at : ℕ) → Walk out₀ p body out q at → raws (drop at body) ≡ []
-    → CopiesLines out₀ p body out q
-walk_end_lem out₀ p body out q at w is = w.lines out q (copies_none out q (drop at body) is)
+-- A rest that is no field is passed over.
+pub walk_broken : (out₀ : List ℕ) (p : Lines) (all : List Raw) (out : List ℕ) (q : Lines) (left rest : List Raw) → Walk out₀ p all out q left → left ≡ broken ∷ rest
+    → Walk out₀ p all out q rest
+walk_broken out₀ p all out q left rest w is =
+    let n : length left ≡ suc (length rest) = ap length is in
+    let known : Every OfBytes (broken ∷ rest) = rw is at w.known in
+    record {
+      size = w.size;
+      known = known.1;
+      bounds = w.bounds;
+      count = omega (arith, n, w.count);
+      lines = λ out' r others. w.lines out' r (rw is (copies_broken out out' q r rest));
+    }
 
-pub walk_broken : (out₀ : List ℕ) (p : Lines) (body out : List ℕ) (q : Lines) (at : ℕ) → Walk out₀ p body out q at → raws (drop at body) ≡ broken ∷ []
-    → CopiesLines out₀ p body out q
-walk_broken out₀ p body out q at w is = w.lines out q (copies_broken out q (drop at body) is)
-
--- ---- the length of a field
-
--- The content of a field that was found has at most 65,535 bytes.
-pub content_short : (s : List ℕ) (at letter start next : ℕ) (r : Field) → FieldIs s at letter start next → r ≡ At letter start next → Short r
-    → length (take (next - start) (drop start s)) < 65536
-content_short s at letter start next r f told short =
-    let k : next < start + 65536 = subst Short told short in
-    omega (arith, content_size s at letter start next f, k)
+-- No field is left.
+pub walk_end : (out₀ : List ℕ) (p : Lines) (all : List Raw) (out : List ℕ) (q : Lines) (left : List Raw) → Walk out₀ p all out q left → left ≡ []
+    → CopiesFields out₀ p all out q
+walk_end out₀ p all out q left w is = w.lines out q (rw is (copies_none out q))

@@ -16,7 +16,10 @@ use Rattle.characters.proofs.Tests.{and_left, and_right, and_assoc}
 use Rattle.fields.specs.Field.{head, field, all}
 use Rattle.fields.specs.Sheet.{pieces_bytes}
 use Rattle.fields.specs.Store.{Wrote}
-use Rattle.fields.specs.Answer.{Answer, refused, in_store, give, Stands}
+use Rattle.fields.specs.Answer.{Answer, refuse_with, refused, in_store, give, Stands}
+use Rattle.fields.specs.Refusal.{number, needed}
+use Rattle.fields.specs.declared.refusal.Refusal.{Refusal}
+use Rattle.fields.specs.declared.refusal.Refusal.TheVariants.{LongLine, LongSheet}
 use Rattle.fields.specs.Widths.{width}
 use Rattle.fields.proofs.Sets.{sets_append, wrote_then, wrote_before}
 use Rattle.borders.specs.BorderHoriz.{stretch_to, to_string, drawn, into_tagged_from, border_into_tagged_line}
@@ -276,6 +279,11 @@ hands_on out out' p r fields k count long w ns vs t st ls emitted =
 
 -- ---- the end of a call
 
+-- A refusal with no length is the refusal of that number.
+pub refuses : (e : Refusal) (n : ℕ) (store : List ℕ) → number e ≡ n → needed e ≡ 0 → refuse_with e store ≡ give (refused n) store
+unfolding give
+refuses e n store k z = rw (k, z)
+
 -- a refusal zeroes by the store's length alone
 refused_same : (n : ℕ) (s t : List ℕ) → length s ≡ length t → give (refused n) s ≡ give (refused n) t
 unfolding give
@@ -287,15 +295,15 @@ Answers p store a =
     (st : List ℕ) (ls : List RenderLine) (ns : List (List ℕ)) (vs : List Hanging) → Emitted st ls ns vs store p → a ≡ give (finished (sheet_of ls ns vs)) st
 
 -- refusal 7
-pub closes_long : (p : Lines) (store : List ℕ) (a : Answer) → p.long ≡ true → a ≡ give (refused 7) store → Answers p store a
+pub closes_long : (p : Lines) (store : List ℕ) (a : Answer) → p.long ≡ true → a ≡ refuse_with LongLine store → Answers p store a
 unfolding finished
-closes_long p store a long is st ls ns vs e = is ∙ refused_same 7 store st e.size ∙ rw (sym e.long ∙ long)
+closes_long p store a long is st ls ns vs e = is ∙ refuses LongLine 7 store refl refl ∙ refused_same 7 store st e.size ∙ rw (sym e.long ∙ long)
 
 -- refusal 9
-pub closes_many : (p : Lines) (store : List ℕ) (a : Answer) → p.long ≡ false → 65535 < p.count → a ≡ give (refused 9) store → Answers p store a
+pub closes_many : (p : Lines) (store : List ℕ) (a : Answer) → p.long ≡ false → 65535 < p.count → a ≡ refuse_with LongSheet store → Answers p store a
 unfolding finished
 closes_many p store a short many is st ls ns vs e =
-    is ∙ refused_same 9 store st e.size ∙ rw (sym e.long ∙ short, lt-ltb 65535 (length ls) (rw e.count at many))
+    is ∙ refuses LongSheet 9 store refl refl ∙ refused_same 9 store st e.size ∙ rw (sym e.long ∙ short, lt-ltb 65535 (length ls) (rw e.count at many))
 
 -- The head in front of the lines, or refusal 8.
 pub closes_lines : (p : Lines) (store : List ℕ) (a : Answer) → p.long ≡ false → p.count ≤ 65535

@@ -1,17 +1,18 @@
 -- The lines of a sheet that stand in a store, from 5 on, before their head, with the names that wait and the cells that hang behind them;
 -- and what is done to them.
 -- Assumes nothing: these are definitions.
-use Rattle.std.specs.Prelude.{◌≡◌, Bool, true, false, not, ◌&&◌, List, [], ◌∷◌, ◌++◌, map, ℕ, ◌+◌, ◌*◌, ◌≤◌, ◌<◌, length, take, drop}
+use Rattle.std.specs.Prelude.{◌≡◌, Bool, true, false, not, ◌&&◌, List, [], ◌∷◌, ◌++◌, map, ℕ, ◌+◌, ◌*◌, ◌≤◌, ◌<◌, length, take, drop, Result}
 use Rattle.std.proofs.Math.Option.{some}
 use Rattle.std.proofs.lemmas.List.Edits.{sets}
-use Rattle.fields.specs.Field.{whole, raws, read_all, all}
+use Rattle.fields.specs.Field.{Raw, raws, read_all, all}
 use Rattle.fields.specs.Sheet.{Piece, fragment}
 use Rattle.fields.specs.Answer.{rendered, give}
-use Rattle.fields.specs.declared.answer.Rendered.{Rendered}
+use Rattle.fields.specs.declared.refusal.Refusal.{Refusal}
 use Rattle.rows.specs.declared.RenderOptions.{RenderOptions}
 use Rattle.fields.specs.Spans.{RenderLine, text, Hanging, sheet_of, read_line, read_name, read_hanging, body_bytes}
 use Rattle.rows.specs.SubRenderer.{padded, plain_border}
 use Rattle.rows.specs.Answer.{fits, fits_hanging, finished}
+use Rattle.rows.proofs.Reading.{OfBytes}
 use Rattle.tagged_line.specs.Held.{Held}
 use Rattle.tagged_line.specs.declared.line.Line.{Line}
 use Rattle.extend_lines.specs.declared.line.Lines.{Lines}
@@ -80,17 +81,21 @@ abbrev pub AddsBorder : List ℕ → Lines → RenderOptions → ℕ → List �
 AddsBorder out p s a segs out' r =
     (st : List ℕ) (ls : List RenderLine) → Emitted st ls [] [] out p → Emitted st (ls ++ (padded s (plain_border a segs) ∷ [])) [] [] out' r
 
--- a line copied
-abbrev pub CopiesLine : List ℕ → Lines → ℕ → List ℕ → List ℕ → Lines → Type 0
-CopiesLine out p letter content out' r =
-    (l : RenderLine) → read_line (whole letter content) ≡ some l
+-- a line copied, whose content is bytes
+abbrev pub CopiesLine : List ℕ → Lines → Raw → List ℕ → Lines → Type 0
+CopiesLine out p field out' r =
+    (l : RenderLine) → read_line field ≡ some l → OfBytes field
     → (st : List ℕ) (ls : List RenderLine) → Emitted st ls [] [] out p → Emitted st (ls ++ (l ∷ [])) [] [] out' r
+
+-- lines copied, whose fields stand in a list
+abbrev pub CopiesFields : List ℕ → Lines → List Raw → List ℕ → Lines → Type 0
+CopiesFields out p fields out' r =
+    (new : List RenderLine) → read_all read_line fields ≡ some new
+    → (st : List ℕ) (ls : List RenderLine) → Emitted st ls [] [] out p → Emitted st (ls ++ new) [] [] out' r
 
 -- lines copied
 abbrev pub CopiesLines : List ℕ → Lines → List ℕ → List ℕ → Lines → Type 0
-CopiesLines out p body out' r =
-    (new : List RenderLine) → read_all read_line (raws body) ≡ some new
-    → (st : List ℕ) (ls : List RenderLine) → Emitted st ls [] [] out p → Emitted st (ls ++ new) [] [] out' r
+CopiesLines out p body out' r = CopiesFields out p (raws body) out' r
 
 -- F fields and then V fields, read from bytes
 pub record TailReads (fields : List ℕ) (ns : List (List ℕ)) (vs : List Hanging) : Type 0 where
@@ -110,7 +115,7 @@ BeginsLine out names out' r =
     (ns : List (List ℕ)) → read_all read_name (raws names) ≡ some ns → Held out (map fragment ns) out' r
 
 -- the end of a call
-abbrev pub Closes : Lines → List ℕ → Rendered → List ℕ → Type 0
+abbrev pub Closes : Lines → List ℕ → Result ℕ Refusal → List ℕ → Type 0
 Closes p store r store' =
     (st : List ℕ) (ls : List RenderLine) (ns : List (List ℕ)) (vs : List Hanging) → Emitted st ls ns vs store p
     → rendered r store' ≡ give (finished (sheet_of ls ns vs)) st

@@ -1,37 +1,37 @@
 // The old sheet's lines, the names that wait on it and the cells that hang from it, copied as they stand.
 ghost use Rattle.std.specs.Prelude.{◌≡◌, ◌+◌, ◌≤◌, ◌<◌, length};
 ghost use Rattle.fields.specs.Field.{raws};
+ghost use Rattle.fields.specs.List.{whole_of};
 ghost use Rattle.extend_lines.specs.Emitted.{InBounds, OneLineMore, CopiesLine, CopiesLines, HandsOn};
 
 use crate::line::Lines;
-use fields::field::{Field, field_at};
+use fields::list::Fields;
+use fields::raw::Field;
 use fields::store::{put_bytes, put_field, put_head};
 use tagged_line::piece::copy_pieces;
 
 // One line: a text piece by piece, a border whole, with holes or without.
-fn copy_line(out: &mut [u8], lines: Lines, letter: u8, content: &[u8]) -> Lines
-    requires { InBounds lines × (length content.now < 65536) }
+fn copy_line(out: &mut [u8], lines: Lines, field: Field<'_>) -> Lines
+    requires { InBounds lines }
     ensures one_line_more { OneLineMore lines result }
-    ensures copies_line { CopiesLine out.old lines letter content.now out.new result }
+    ensures copies_line { CopiesLine out.old lines (whole_of field.entry) out.new result }
 {
-    let at = lines.at;
     let count = lines.count + 1;
-    let long = lines.long;
-    if letter == b'L' {
-        let start = at + 3;
-        let end = copy_pieces(out, start, content);
-        put_head(out, at, b'L', end - start);
+    if field.letter == b'L' {
+        let start = lines.at + 3;
+        let end = copy_pieces(out, start, field.content);
+        put_head(out, lines.at, b'L', end - start);
         return Lines {
             at: end,
             count,
-            long,
+            ..lines
         };
     }
-    let end = put_field(out, at, letter, content);
+    let end = put_field(out, lines.at, field.letter, field.content);
     Lines {
         at: end,
         count,
-        long,
+        ..lines
     }
 }
 
@@ -42,26 +42,12 @@ pub fn copy_lines(out: &mut [u8], lines: Lines, body: &[u8]) -> Lines
     ensures copies_lines { CopiesLines out.old lines body.now out.new result }
 {
     let mut next = lines;
-    let mut at: usize = 0;
-    loop {
-        let f = field_at(body, at);
-        match f {
-            Field::At {
-                letter,
-                start,
-                next: past,
-            } => {
-                next = copy_line(out, next, letter, &body[start..past]);
-                at = past;
-            }
-            Field::Broken => {
-                return next;
-            }
-            Field::End => {
-                return next;
-            }
+    for field in Fields::new(body) {
+        if let Ok(field) = field {
+            next = copy_line(out, next, field);
         }
     }
+    next
 }
 
 // Names that wait and cells that hang from the sheet, handed on: its F and V fields behind the lines. The head does not count them.
@@ -71,9 +57,5 @@ pub fn hand_on(out: &mut [u8], lines: Lines, fields: &[u8]) -> Lines
     ensures hands_on { HandsOn out.old lines fields.now out.new result }
 {
     let at = put_bytes(out, lines.at, fields);
-    Lines {
-        at,
-        count: lines.count,
-        long: lines.long,
-    }
+    Lines { at, ..lines }
 }

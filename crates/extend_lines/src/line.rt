@@ -3,28 +3,44 @@ ghost use Rattle.std.specs.Prelude.{◌≡◌, true, ◌^◌, ◌<◌, length};
 ghost use Rattle.extend_lines.specs.Emitted.{no_lines, InBounds, OneLineMore, LineBegun, FinishesLine, AddsTextLine, BeginsLine, PutsBorder, AddsBorder, Closes};
 
 use borders::draw::drawn_len;
-use fields::answer::{Rendered, finish, refuse};
+use fields::answer::{finish, refuse};
 use fields::field::wide;
+use fields::refusal::Refusal;
 use fields::store::{put_byte, put_bytes, put_head};
 use rows::RenderOptions;
 use tagged_line::line::{Line, new_line, pad_to, push_drawn};
 
 // The place after the lines so far, their number, and whether one of them has more than 65,535 bytes (refusal 7).
-#[derive(Clone, Copy)]
+#[derive(Clone, Copy, Debug, PartialEq, Eq)]
 pub struct Lines {
     pub at: usize,
     pub count: usize,
     pub long: bool,
 }
 
-// No lines yet: the first five bytes are the head's.
-pub fn no_lines() -> Lines
-    ensures { result ≡ no_lines }
-{
-    Lines {
-        at: 5,
-        count: 0,
-        long: false,
+impl Lines {
+    // No lines yet: the first five bytes are the head's.
+    pub fn new() -> Lines
+        ensures { result ≡ no_lines }
+    {
+        Lines {
+            at: 5,
+            count: 0,
+            long: false,
+        }
+    }
+
+    // The end of a call: refusal 7, 9 or 8, or the head in front of the lines and what stands behind them.
+    pub fn close(self, store: &mut [u8]) -> Result<usize, Refusal>
+        ensures { Closes self store.old result store.new }
+    {
+        if self.long {
+            return refuse(Refusal::LongLine, store);
+        }
+        if 65535 < self.count {
+            return refuse(Refusal::LongSheet, store);
+        }
+        finish(self.at, self.count, store)
     }
 }
 
@@ -34,9 +50,9 @@ pub fn too_long(lines: Lines) -> Lines
     ensures { OneLineMore lines result × (result.long ≡ true) }
 {
     Lines {
-        at: lines.at,
         count: lines.count + 1,
         long: true,
+        ..lines
     }
 }
 
@@ -124,17 +140,4 @@ pub fn add_border(
         return add_text_line(out, lines, text, options);
     }
     put_border(out, lines, annotation, segs)
-}
-
-// The end of a call: refusal 7, 9 or 8, or the head in front of the lines and what stands behind them.
-pub fn close(lines: Lines, store: &mut [u8]) -> Rendered
-    ensures { Closes lines store.old result store.new }
-{
-    if lines.long {
-        return refuse(7, store);
-    }
-    if 65535 < lines.count {
-        return refuse(9, store);
-    }
-    finish(lines.at, lines.count, store)
 }
