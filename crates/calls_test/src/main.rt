@@ -7,6 +7,8 @@
 // The committed file, crates/calls_test/stdin, was made by oracle/stored; its stores have at most 65,536 bytes, but for records at the limits.
 #![tactic(auto)]
 
+ghost use Rattle.std.specs.Prelude.{◌<◌};
+
 use append_columns::append_columns_with_borders;
 use append_subrender::{append_subrender, append_vert_row};
 use fields::refusal::Refusal;
@@ -23,6 +25,7 @@ const FILL: u8 = 0xEE;
 const SPACE: usize = 262144;
 
 // Why a record does not come to the same: reading fails, it cannot be read whole, or its call gets another answer.
+#[derive(Drop)]
 enum Failure {
     Io(io::Error),
     Unread,
@@ -68,10 +71,10 @@ struct Call {
 
 // The inputs of a call: a job or a sheet, a guest sheet or cells, and prefixes.
 #[derive(Clone, Copy)]
-struct Inputs<'a> {
+struct Inputs<'a, 'b, 'c> {
     first: &'a [u8],
-    second: &'a [u8],
-    third: &'a [u8],
+    second: &'b [u8],
+    third: &'c [u8],
 }
 
 // The length of the store, and the number and the length that the call must say.
@@ -82,16 +85,8 @@ struct Answer {
     length: usize,
 }
 
-// The room for a record's inputs, its sheet and its store.
-struct Spaces {
-    first: [u8; SPACE],
-    second: [u8; SPACE],
-    third: [u8; SPACE],
-    sheet: [u8; SPACE],
-    store: [u8; SPACE],
-}
-
 // How many records there were, how many of them differ, and how often each kind and each number came.
+#[derive(Drop)]
 struct Tally {
     records: u64,
     differences: u64,
@@ -169,6 +164,18 @@ fn read_input<'a>(from: &mut Stdin, space: &'a mut [u8]) -> Result<&'a [u8], Fai
     }
 }
 
+// The same for an input that only some calls have; for the others it is empty.
+fn read_further<'a>(
+    from: &mut Stdin,
+    there: bool,
+    space: &'a mut [u8],
+) -> Result<&'a [u8], Failure> {
+    if there {
+        return read_input(from, space);
+    }
+    Ok(&[])
+}
+
 // Reads what stands between a record's inputs and its sheet.
 fn read_answer(from: &mut Stdin) -> Result<Answer, Failure> {
     let mut bytes = [0u8; 8];
@@ -200,7 +207,7 @@ fn says(said: Result<usize, Refusal>, answer: Answer) -> bool {
 }
 
 // The call that a record asks for.
-fn run(call: Call, inputs: Inputs<'_>, store: &mut [u8]) -> Result<usize, Refusal> {
+fn run(call: Call, inputs: Inputs<'_, '_, '_>, store: &mut [u8]) -> Result<usize, Refusal> {
     let Call {
         kind,
         options,
@@ -222,7 +229,7 @@ fn run(call: Call, inputs: Inputs<'_>, store: &mut [u8]) -> Result<usize, Refusa
 // Does the call get the answer and leave the sheet in the store, or zeros?
 fn agrees(
     call: Call,
-    inputs: Inputs<'_>,
+    inputs: Inputs<'_, '_, '_>,
     answer: Answer,
     sheet: &[u8],
     store: &mut [u8],
@@ -237,7 +244,7 @@ fn agrees(
 fn replay_call(
     from: &mut Stdin,
     call: Call,
-    inputs: Inputs<'_>,
+    inputs: Inputs<'_, '_, '_>,
     sheets: &mut [u8],
     stores: &mut [u8],
 ) -> Result<u8, Failure> {
@@ -254,33 +261,43 @@ fn replay_call(
     Ok(answer.number)
 }
 
-// Reads and compares one record, if one is left, and answers its kind and its number.
-fn replay(from: &mut Stdin, spaces: &mut Spaces) -> Result<Option<(Kind, u8)>, Failure> {
+// Reads and compares one record, if one is left, and answers its kind and its number. The spaces are five slices and no struct: the borrow
+// checker lends the fields behind one reference one at a time.
+fn replay(
+    from: &mut Stdin,
+    firsts: &mut [u8],
+    seconds: &mut [u8],
+    thirds: &mut [u8],
+    sheets: &mut [u8],
+    stores: &mut [u8],
+) -> Result<Option<(Kind, u8)>, Failure> {
     let Some(call) = read_call(from)? else {
         return Ok(None);
     };
-    let first = read_input(from, &mut spaces.first)?;
-    let second = match call.kind {
-        Kind::Job => &[],
-        _ => read_input(from, &mut spaces.second)?,
-    };
-    let third = match call.kind {
-        Kind::Subrender => read_input(from, &mut spaces.third)?,
-        _ => &[],
-    };
+    let first = read_input(from, firsts)?;
+    let second = read_further(from, call.kind != Kind::Job, seconds)?;
+    let third = read_further(from, call.kind == Kind::Subrender, thirds)?;
     let inputs = Inputs {
         first,
         second,
         third,
     };
-    let number = replay_call(from, call, inputs, &mut spaces.sheet, &mut spaces.store)?;
+    let number = replay_call(from, call, inputs, sheets, stores)?;
     Ok(Some((call.kind, number)))
 }
 
 // Replays the records up to the end of the file.
-fn replay_all(from: &mut Stdin, spaces: &mut Spaces, tally: &mut Tally) -> io::Result<()> {
+fn replay_all(
+    from: &mut Stdin,
+    firsts: &mut [u8],
+    seconds: &mut [u8],
+    thirds: &mut [u8],
+    sheets: &mut [u8],
+    stores: &mut [u8],
+    tally: &mut Tally,
+) -> io::Result<()> {
     for _ in 0..u64::MAX {
-        match replay(from, spaces) {
+        match replay(from, firsts, seconds, thirds, sheets, stores) {
             Ok(Some((kind, number))) => tally.count(kind, number),
             Ok(None) => break,
             Err(Failure::Io(error)) => return Err(error),
@@ -301,20 +318,26 @@ fn print_counts(out: &Stdout, word: &str, counts: &[u64; 256]) -> io::Result<()>
 }
 
 fn main(rt: HostRuntime) -> io::Result<()> {
-    let mut spaces = Spaces {
-        first: [0; SPACE],
-        second: [0; SPACE],
-        third: [0; SPACE],
-        sheet: [0; SPACE],
-        store: [0; SPACE],
-    };
+    let mut firsts = [0u8; SPACE];
+    let mut seconds = [0u8; SPACE];
+    let mut thirds = [0u8; SPACE];
+    let mut sheets = [0u8; SPACE];
+    let mut stores = [0u8; SPACE];
     let mut tally = Tally {
         records: 0,
         differences: 0,
         kinds: [0; 256],
         numbers: [0; 256],
     };
-    replay_all(&mut rt.stdin(), &mut spaces, &mut tally)?;
+    replay_all(
+        &mut rt.stdin(),
+        &mut firsts,
+        &mut seconds,
+        &mut thirds,
+        &mut sheets,
+        &mut stores,
+        &mut tally,
+    )?;
     let out = rt.stdout();
     println!(out; "records: {}", tally.records)?;
     print_counts(&out, "kind", &tally.kinds)?;
