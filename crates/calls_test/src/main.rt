@@ -200,9 +200,7 @@ fn holds(store: &[u8], sheet: &[u8], past: u8) -> bool {
 fn says(said: Result<usize, Refusal>, answer: Answer) -> bool {
     match said {
         Ok(length) => answer.number == 0 && answer.length == length,
-        Err(refusal) => {
-            answer.number == refusal.number() && answer.length == refusal.needed()
-        }
+        Err(refusal) => { answer.number == refusal.number() && answer.length == refusal.needed() }
     }
 }
 
