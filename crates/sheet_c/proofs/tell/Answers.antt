@@ -8,4 +8,4 @@ returns-in-Ok c =
 
 pub returns-in-Err : goal.returns-in-Err
 returns-in-Err c =
-    λ store. rw (c.in-Err.is, c.number.ensures, c.needed.ensures)
+    λ store. rw (c.in-Err.is, ← c.number.ensures, ← c.needed.ensures)
