@@ -6,12 +6,15 @@ use mathlib.Core.List.{List, [], ◌∷◌}
 use Prim.Native.Nat.{ℕ, ◌+◌, ◌≤◌, ◌<◌}
 use native.Mathlib.Omega.{arith}
 use lib.ListN.{length, length-append}
-use Rattle.std.specs.Prelude.{if◌then◌else◌}
+use Rattle.std.specs.Prelude.{Result, if◌then◌else◌}
 use Rattle.characters.proofs.Tests.{and_right}
 use Rattle.fields.specs.Field.{raws, part, all}
 use Rattle.fields.specs.First.{first_of}
-use Rattle.fields.specs.Answer.{Answer, Verdict, rendered, refused, give}
-use Rattle.fields.specs.declared.answer.Rendered.{Rendered}
+use Rattle.fields.specs.Answer.{Answer, Verdict, rendered, refuse_with, refused, give}
+use Rattle.fields.specs.Refusal.{number}
+use Rattle.fields.specs.declared.refusal.Refusal.{Refusal}
+use Rattle.fields.proofs.First.{is_some}
+use Rattle.extend_lines.proofs.Refusing.{sheet_low, cells_low, width_low, first_low, refuses_low}
 use Rattle.fields.proofs.Readings.{read_size}
 use Rattle.rows.specs.Answer.{width_refusal, finished, or_misfit, columns_answer}
 use Rattle.rows.specs.declared.RenderOptions.{RenderOptions}
@@ -61,18 +64,21 @@ after_flat s old cs collapse joined kind =
     misfit_or false t = refl
 
 -- A refusal of 1 to 3.
-pub call_refused : (n : ℕ) (a : Answer) (s : RenderOptions) (sheet cells : List ℕ) (collapse : Bool) (st : List ℕ) → n ≡ columns_number s sheet cells → (n ≡ 0 → ⊥)
-    → a ≡ give (refused n) st → a ≡ columns_answer s sheet cells collapse st
+pub call_refused : (e : Refusal) (a : Answer) (s : RenderOptions) (sheet cells : List ℕ) (collapse : Bool) (st : List ℕ) → number e ≡ columns_number s sheet cells
+    → a ≡ refuse_with e st → a ≡ columns_answer s sheet cells collapse st
 unfolding columns_answer
-call_refused n a s sheet cells collapse st e h is =
-    is ∙ ap (λ (v : Verdict). give v st) (sym (columns_refused n s sheet cells collapse e h))
+call_refused e a s sheet cells collapse st k is =
+    let low = first_low _ _ (first_low _ _ (sheet_low sheet) (cells_low cells)) (width_low s.width) in
+    is
+    ∙ refuses_low e st (omega (arith, k, low))
+    ∙ ap (λ (v : Verdict). give v st) (sym (columns_refused (number e) s sheet cells collapse k (λ z. omega (arith, z, is_some e))))
 
-module _ (n : ℕ) (s : RenderOptions) (sheet cells : List ℕ) (is : n ≡ columns_number s sheet cells) (zero : n ≡ 0) where
+module _ (s : RenderOptions) (sheet cells : List ℕ) (passed : 0 ≡ columns_number s sheet cells) where
   -- both inputs pass
   none_of : (sheet_refusal sheet ≡ 0) × (cells_refusal cells ≡ 0)
   none_of =
       first_none (sheet_refusal sheet) (cells_refusal cells)
-      (first_none (first_of (sheet_refusal sheet) (cells_refusal cells)) (width_refusal s.width) (sym is ∙ zero)).0
+      (first_none (first_of (sheet_refusal sheet) (cells_refusal cells)) (width_refusal s.width) (sym passed)).0
 
   old_passes : SheetPasses sheet
   old_passes = sheet_passes sheet none_of.0
@@ -119,7 +125,7 @@ module _ (n : ℕ) (s : RenderOptions) (sheet cells : List ℕ) (is : n ≡ colu
         }
 
     -- The row's answer is the call's.
-    pub call_laid : (collapse : Bool) (done : Rendered) (st st' : List ℕ) → Lays s sheet at.names at.hanging last joined cells collapse st done st'
+    pub call_laid : (collapse : Bool) (done : Result ℕ Refusal) (st st' : List ℕ) → Lays s sheet at.names at.hanging last joined cells collapse st done st'
         → rendered done st' ≡ columns_answer s sheet cells collapse st
     unfolding columns_answer
     call_laid collapse done st st' lays =
@@ -127,5 +133,5 @@ module _ (n : ℕ) (s : RenderOptions) (sheet cells : List ℕ) (is : n ≡ colu
         let cs = cells_passes.cells in
         lays old cs inputs_are
         ∙ ap (λ (v : Verdict). give v st)
-        (sym (columns_goes n s sheet cells collapse is zero old cs old_passes.reads cells_passes.reads
+        (sym (columns_goes 0 s sheet cells collapse passed refl old cs old_passes.reads cells_passes.reads
         ∙ after_flat s old cs collapse joined (kind old.lines parts.lines last_is)))

@@ -11,10 +11,13 @@ use lib.ListN.{length, take, drop, length-append, drop_of_length-le}
 use lib.Seq.{take_all}
 use borrow.Author.Tests.{leb-true, eq-eqb, ne_eqb}
 use Rattle.characters.proofs.Tests.{by_if, and_left, and_right}
-use Rattle.std.specs.Prelude.{if◌then◌else◌}
+use Rattle.std.specs.Prelude.{Result, Ok, Err, if◌then◌else◌}
 use Rattle.fields.specs.Field.{raws_f, raws, read_all, part, all}
-use Rattle.fields.specs.Answer.{Verdict, rendered, refused, give}
-use Rattle.fields.specs.declared.answer.Rendered.{Rendered}
+use Rattle.fields.specs.Answer.{Verdict, rendered, refuse_with, refused, give}
+use Rattle.fields.specs.Refusal.{number}
+use Rattle.fields.specs.declared.refusal.Refusal.{Refusal}
+use Rattle.fields.specs.declared.refusal.Refusal.TheVariants.{NoBorderAbove, OverhangMisfit}
+use Rattle.fields.proofs.First.{is_some}
 use Rattle.fields.proofs.Back.{Every}
 use Rattle.fields.proofs.Parts.{part_length}
 use Rattle.rows.specs.declared.RenderOptions.{RenderOptions}
@@ -41,27 +44,13 @@ use Rattle.overhang.specs.Hang.{StartsIn, HangsAll}
 use Rattle.overhang.proofs.SpentLaws.{every_row}
 use Rattle.extend_lines.specs.Emitted.{Emitted, InBounds, TailReads, HandsOn, Closes}
 use Rattle.extend_lines.specs.declared.line.Lines.{Lines}
+use Rattle.extend_lines.proofs.Emitting.{refuses}
 use Rattle.extend_lines.proofs.Naming.{names_back}
 use Rattle.append_columns.specs.Old.{AddsOld}
 use Rattle.append_columns.specs.Below.{holes_below, NextOrSame, RowBelow, AddsBelow}
-use Rattle.append_columns.specs.Lay.{RowAsked, Asks, waiting_on, NamesHanded, HandsNames, InputsAre, RowIs, full_total, AddsAll, Lays}
-use Rattle.append_columns.specs.declared.lay.Asked.{Asked}
+use Rattle.append_columns.specs.Lay.{row_refusal, RowAsked, Asks, waiting_on, NamesHanded, HandsNames, InputsAre, RowIs, full_total, AddsAll, Lays}
 
 -- ---- what is asked
-
--- the tests of refusal 6
-pub six_off : (top joined collapse : Bool) → collapse ≡ false → false ≡ (collapse && top && not joined)
-six_off top joined collapse e = rw e
-
-and_none : (a b : Bool) → false ≡ (a && false && b)
-and_none true b = refl
-and_none false b = refl
-
-pub six_bare : (top joined collapse : Bool) → top ≡ false → false ≡ (collapse && top && not joined)
-six_bare top joined collapse e = rw e (and_none collapse (not joined))
-
-pub six_last : (top joined collapse r : Bool) → collapse ≡ true → top ≡ true → r ≡ not joined → r ≡ (collapse && top && not joined)
-six_last top joined collapse r c t e = e ∙ rw (c, t)
 
 module _ (o : RenderOptions) (joined collapse : Bool) (s : Surveyed) (xs : List Slot) (full : ℕ) (v : SurveyIs collapse s xs full) (six : Bool) (is : six ≡ (collapse && s.top && not joined)) where
   -- the row's columns, and its border below
@@ -76,29 +65,29 @@ module _ (o : RenderOptions) (joined collapse : Bool) (s : Surveyed) (xs : List 
   six_is = ap (λ (t : Bool). collapse && t && not joined) (sym v.top_is) ∙ sym is
 
   -- Refusal 6.
-  pub asked_six : (h : Bool) → six ≡ true → RowAsked o joined collapse s.total s.height xs (record { refusal = 6; holes = h })
-  asked_six h e = record { refusal_is = rw (six_is ∙ e); holes_is = λ z. absurd (omega (arith, z)) }
+  pub asked_six : six ≡ true → RowAsked o joined collapse s.total s.height xs (Err NoBorderAbove)
+  asked_six e = (rw (six_is ∙ e), refl)
 
   -- no refusal, whatever the holes
   no_refusal : (h : Bool) → six ≡ false → misfit ≡ false → h ≡ any_hole (holes_below o collapse s.height xs)
-      → RowAsked o joined collapse s.total s.height xs (record { refusal = 0; holes = h })
-  no_refusal h e m k = record { refusal_is = rw (six_is ∙ e, m); holes_is = λ _. k }
+      → RowAsked o joined collapse s.total s.height xs (Ok h)
+  no_refusal h e m k = (rw (six_is ∙ e, m), k)
 
   -- A plain row has none.
-  pub asked_plain : six ≡ false → s.plain ≡ true → RowAsked o joined collapse s.total s.height xs (record { refusal = 0; holes = false })
+  pub asked_plain : six ≡ false → s.plain ≡ true → RowAsked o joined collapse s.total s.height xs (Ok false)
   asked_plain e p =
       let q : Every (PlainSlot collapse s.total) xs = rw v.total_is (v.plain_is p) in
       no_refusal false e (plain_fits o s.total collapse xs _ q) (sym (ap any_hole (plain_holes o s.height 0 s.total collapse xs q)))
 
   -- Refusal 10, or none.
-  pub asked_ten : (h : Bool) (f : Fit) → six ≡ false → RowFit o collapse joined s.total s.height xs f → f.misfit ≡ true
-      → RowAsked o joined collapse s.total s.height xs (record { refusal = 10; holes = h })
-  asked_ten h f e r m =
+  pub asked_ten : (f : Fit) → six ≡ false → RowFit o collapse joined s.total s.height xs f → f.misfit ≡ true
+      → RowAsked o joined collapse s.total s.height xs (Err OverhangMisfit)
+  asked_ten f e r m =
       let k : misfit ≡ true = sym r.misfit_is ∙ m in
-      record { refusal_is = rw (six_is ∙ e, k); holes_is = λ z. absurd (omega (arith, z)) }
+      (rw (six_is ∙ e, k), refl)
 
   pub asked_fits : (f : Fit) → six ≡ false → RowFit o collapse joined s.total s.height xs f → f.misfit ≡ false
-      → RowAsked o joined collapse s.total s.height xs (record { refusal = 0; holes = f.holes })
+      → RowAsked o joined collapse s.total s.height xs (Ok f.holes)
   asked_fits f e r m = no_refusal f.holes e (sym r.misfit_is ∙ m) r.holes_is
 
 -- ---- the numbers of lines
@@ -287,7 +276,7 @@ module _ (o : RenderOptions) (sheet : List ℕ) (stop from last : ℕ) (joined :
         ∙ rw (h, t, k)
 
   -- Of a plain row nothing hangs on.
-  pub adds_plain : (o₁ o₂ o₃ o₄ : List ℕ) (p₁ p₂ p₃ p₄ : Lines) (done : Rendered) (store' : List ℕ) → s.plain ≡ true
+  pub adds_plain : (o₁ o₂ o₃ o₄ : List ℕ) (p₁ p₂ p₃ p₄ : Lines) (done : Result ℕ Refusal) (store' : List ℕ) → s.plain ≡ true
       → AddsOld store sheet stop last joined cells at end width hung kept collapse o₁ p₁
       → AddsRow o₁ p₁ (part stop from sheet) o cells sheet at end width to hung collapse kept s.height o₂ p₂
       → AddsBelow o₂ p₂ o cells sheet at end width hung kept first joined collapse s.total s.height holes o₃ p₃
@@ -300,7 +289,7 @@ module _ (o : RenderOptions) (sheet : List ℕ) (stop from last : ℕ) (joined :
       (ap (sheet_of (all_lines old (row_slots old.overhang cs)) (waiting_on s.height old.names)) (sym none) ∙ flat_is old cs i r)
 
   -- What hangs on stands behind the lines and the names.
-  pub adds_hung : (o₁ o₂ o₃ o₄ o₅ : List ℕ) (p₁ p₂ p₃ p₄ p₅ : Lines) (done : Rendered) (store' : List ℕ)
+  pub adds_hung : (o₁ o₂ o₃ o₄ o₅ : List ℕ) (p₁ p₂ p₃ p₄ p₅ : Lines) (done : Result ℕ Refusal) (store' : List ℕ)
       → AddsOld store sheet stop last joined cells at end width hung kept collapse o₁ p₁
       → AddsRow o₁ p₁ (part stop from sheet) o cells sheet at end width to hung collapse kept s.height o₂ p₂
       → AddsBelow o₂ p₂ o cells sheet at end width hung kept first joined collapse s.total s.height holes o₃ p₃
@@ -319,20 +308,19 @@ module _ (o : RenderOptions) (sheet : List ℕ) (stop from last : ℕ) (joined :
 abbrev pub judged : Bool → Bool → Verdict → Verdict
 judged six misfit v = if six then refused 6 else if misfit then refused 10 else v
 
-by_refusal : (six misfit : Bool) (v : Verdict) (n : ℕ) → n ≡ (if six then 6 else if misfit then 10 else 0) → (n ≡ 0 → ⊥) → refused n ≡ judged six misfit v
-by_refusal true misfit v n e h = ap refused e
+by_refusal : (six ten : Bool) (v : Verdict) (n : ℕ) → n ≡ (if six then 6 else if ten then 10 else 0) → (n ≡ 0 → ⊥) → refused n ≡ judged six ten v
+by_refusal true ten v n e h = ap refused e
 by_refusal false true v n e h = ap refused e
 by_refusal false false v n e h = absurd (h e)
 
-by_none : (six misfit : Bool) (v : Verdict) (n : ℕ) → n ≡ (if six then 6 else if misfit then 10 else 0) → n ≡ 0 → (misfit ≡ false) × (v ≡ judged six misfit v)
-by_none true misfit v n e z = absurd (omega (arith, e, z))
-by_none false true v n e z = absurd (omega (arith, e, z))
-by_none false false v n e z = (refl, refl)
+by_none : (six ten : Bool) (v : Verdict) → ◌≡◌ {A = ℕ} 0 (if six then 6 else if ten then 10 else 0) → (ten ≡ false) × (v ≡ judged six ten v)
+by_none true ten v e = absurd (omega (arith, e))
+by_none false true v e = absurd (omega (arith, e))
+by_none false false v e = (refl, refl)
 
 module _ (o : RenderOptions) (sheet : List ℕ) (stop from last : ℕ) (joined : Bool) (cells : List ℕ) (collapse : Bool) (at end width to span : List ℕ) (hung : List Bool)
-    (kept : Kept) (first : Slots) (s : Surveyed) (asked : Asked) (begins : Begins cells sheet from first)
-    (keeps : KeepsSeats cells sheet first at end width to span hung kept) (surveys : Surveys cells sheet at end width span hung kept collapse s)
-    (asks : Asks cells sheet first joined collapse s asked) where
+    (kept : Kept) (first : Slots) (s : Surveyed) (begins : Begins cells sheet from first)
+    (keeps : KeepsSeats cells sheet first at end width to span hung kept) (surveys : Surveys cells sheet at end width span hung kept collapse s) where
   module _ (old : Sheet) (cs : List Cell) (i : InputsAre sheet stop from last joined cells old cs) where
     -- the row and what is known of it
     abbrev row_of : List Slot
@@ -347,35 +335,32 @@ module _ (o : RenderOptions) (sheet : List ℕ) (stop from last : ℕ) (joined :
     row_surveyed : SurveyIs collapse s row_of (full_total old.overhang cs)
     row_surveyed = surveys to row_of _ row_kept
 
-    row_asked : RowAsked o joined collapse s.total s.height row_of asked
-    row_asked = asks o row_of _ row_left row_surveyed
-
     -- the tests of the definition
     misfit_same : row_misfit o s.total (map (column_of collapse) row_of) (border_below joined s.total row_of (map (column_of collapse) row_of)) ≡ columns_misfit o old cs collapse
     unfolding columns_misfit row_total
     misfit_same = rw (row_surveyed.total_is, i.old_at.kind)
 
-    refusal_is : asked.refusal ≡ (if collapse && any_top row_of && not joined then 6 else if columns_misfit o old cs collapse then 10 else 0)
-    refusal_is =
-        row_asked.refusal_is
-        ∙ ap (λ (b : Bool). if collapse && any_top row_of && not joined then 6 else if b then 10 else 0) misfit_same
+    refusal_same : row_refusal o joined collapse s.total row_of ≡ (if collapse && any_top row_of && not joined then 6 else if columns_misfit o old cs collapse then 10 else 0)
+    refusal_same = ap (λ (b : Bool). if collapse && any_top row_of && not joined then 6 else if b then 10 else 0) misfit_same
 
   -- Refusal 6 or 10.
-  pub lays_refused : (done : Rendered) (store store' : List ℕ) → (asked.refusal ≡ 0 → ⊥) → rendered done store' ≡ give (refused asked.refusal) store
-      → Lays o sheet stop from last joined cells collapse store done store'
-  lays_refused done store store' h is old cs i =
+  pub lays_refused : (e : Refusal) → Asks cells sheet first joined collapse s (Err e) → (done : Result ℕ Refusal) (store store' : List ℕ)
+      → rendered done store' ≡ refuse_with e store → Lays o sheet stop from last joined cells collapse store done store'
+  lays_refused e asks done store store' is old cs i =
+      let (k, z) = asks o (row_of old cs i) _ (row_left old cs i) (row_surveyed old cs i) in
       is
-      ∙ ap (λ (v : Verdict). give v store) (by_refusal (collapse && any_top (row_slots old.overhang cs) && not joined) (columns_misfit o old cs collapse) (finished (flat_columns o old cs collapse)) asked.refusal
-      (refusal_is old cs i) h)
+      ∙ refuses e (number e) store refl z
+      ∙ ap (λ (v : Verdict). give v store) (by_refusal (collapse && any_top (row_slots old.overhang cs) && not joined) (columns_misfit o old cs collapse) (finished (flat_columns o old cs collapse)) (number e)
+      (k ∙ refusal_same old cs i) (λ n. omega (arith, n, is_some e)))
 
   -- The row is laid.
-  pub lays_row : (done : Rendered) (store store' : List ℕ) → asked.refusal ≡ 0
-      → AddsAll o sheet stop from last joined cells collapse at end width to hung kept first s asked.holes store done store'
+  pub lays_row : (holes : Bool) → Asks cells sheet first joined collapse s (Ok holes) → (done : Result ℕ Refusal) (store store' : List ℕ)
+      → AddsAll o sheet stop from last joined cells collapse at end width to hung kept first s holes store done store'
       → Lays o sheet stop from last joined cells collapse store done store'
-  lays_row done store store' z adds old cs i =
+  lays_row holes asks done store store' adds old cs i =
+      let (z, h) = asks o (row_of old cs i) _ (row_left old cs i) (row_surveyed old cs i) in
       let n =
-      by_none (collapse && any_top (row_slots old.overhang cs) && not joined) (columns_misfit o old cs collapse) (finished (flat_columns o old cs collapse)) asked.refusal
-      (refusal_is old cs i) z in
+      by_none (collapse && any_top (row_slots old.overhang cs) && not joined) (columns_misfit o old cs collapse) (finished (flat_columns o old cs collapse)) (z ∙ refusal_same old cs i) in
       adds old cs i
       (record {
         span = span;
@@ -383,6 +368,6 @@ module _ (o : RenderOptions) (sheet : List ℕ) (stop from last : ℕ) (joined :
         left = row_left old cs i;
         surveyed = row_surveyed old cs i;
         fits = misfit_same old cs i ∙ n.0;
-        holed = (row_asked old cs i).holes_is z;
+        holed = h;
       })
       ∙ ap (λ (v : Verdict). give v store) n.1

@@ -1,9 +1,10 @@
 -- The row: what is asked of it before anything is written, and all that is written.
 -- Assumes nothing: these are definitions.
-use Rattle.std.specs.Prelude.{◌≡◌, Bool, true, false, not, ◌&&◌, List, [], map, ℕ, ◌+◌, ◌≤◌, eqb, length, if◌then◌else◌}
+use Rattle.std.specs.Prelude.{◌≡◌, Bool, true, false, not, ◌&&◌, List, [], map, ℕ, ◌+◌, ◌≤◌, eqb, length, if◌then◌else◌, Result, Ok, Err}
 use Rattle.fields.specs.Field.{raws, part, all}
 use Rattle.fields.specs.Answer.{rendered, refused, give}
-use Rattle.fields.specs.declared.answer.Rendered.{Rendered}
+use Rattle.fields.specs.Refusal.{number, needed}
+use Rattle.fields.specs.declared.refusal.Refusal.{Refusal}
 use Rattle.rows.specs.Columns.{total_width, Slot, cell_slots, slot_widths, total_from, row_slots, column_of, border_below, row_misfit, columns_misfit, flat_columns, any_top}
 use Rattle.rows.specs.declared.RenderOptions.{RenderOptions}
 use Rattle.fields.specs.Spans.{RenderLine, Hanging, Sheet, Cell, wide, wide_hanging, readable_cell, readable_hanging}
@@ -21,7 +22,6 @@ use Rattle.extend_lines.specs.Emitted.{Emitted}
 use Rattle.extend_lines.specs.declared.line.Lines.{Lines}
 use Rattle.append_columns.specs.Old.{OldAt}
 use Rattle.append_columns.specs.Below.{holes_below}
-use Rattle.append_columns.specs.declared.lay.Asked.{Asked}
 
 -- ---- what is asked
 
@@ -32,13 +32,13 @@ row_refusal o joined collapse total xs =
     else if row_misfit o total (map (column_of collapse) xs) (border_below joined total xs (map (column_of collapse) xs)) then 10
     else 0
 
--- the refusal, and where there is none whether the border below has holes
-pub record RowAsked (o : RenderOptions) (joined collapse : Bool) (total height : ℕ) (xs : List Slot) (r : Asked) : Type 0 where
-  pub refusal_is : r.refusal ≡ row_refusal o joined collapse total xs
-  pub holes_is : r.refusal ≡ 0 → r.holes ≡ any_hole (holes_below o collapse height xs)
+-- the refusal, which has no length, and where there is none whether the border below has holes
+abbrev pub RowAsked : RenderOptions → Bool → Bool → ℕ → ℕ → List Slot → Result Bool Refusal → Type 0
+RowAsked o joined collapse total height xs (Ok holes) = (0 ≡ row_refusal o joined collapse total xs) × (holes ≡ any_hole (holes_below o collapse height xs))
+RowAsked o joined collapse total height xs (Err e) = (number e ≡ row_refusal o joined collapse total xs) × (needed e ≡ 0)
 
 -- `ask`
-abbrev pub Asks : List ℕ → List ℕ → Slots → Bool → Bool → Surveyed → Asked → Type 0
+abbrev pub Asks : List ℕ → List ℕ → Slots → Bool → Bool → Surveyed → Result Bool Refusal → Type 0
 Asks cells sheet first joined collapse s r =
     (o : RenderOptions) (xs : List Slot) (full : ℕ) → SlotsLeft cells sheet first xs full → SurveyIs collapse s xs full
     → RowAsked o joined collapse s.total s.height xs r
@@ -99,14 +99,14 @@ pub record RowIs (o : RenderOptions) (sheet cells : List ℕ) (joined collapse :
   pub holed : holes ≡ any_hole (holes_below o collapse s.height xs)
 
 -- `add_all`
-abbrev pub AddsAll : RenderOptions → List ℕ → ℕ → ℕ → ℕ → Bool → List ℕ → Bool → List ℕ → List ℕ → List ℕ → List ℕ → List Bool → Kept → Slots → Surveyed → Bool → List ℕ → Rendered → List ℕ → Type 0
+abbrev pub AddsAll : RenderOptions → List ℕ → ℕ → ℕ → ℕ → Bool → List ℕ → Bool → List ℕ → List ℕ → List ℕ → List ℕ → List Bool → Kept → Slots → Surveyed → Bool → List ℕ → Result ℕ Refusal → List ℕ → Type 0
 AddsAll o sheet stop from last joined cells collapse at end width to hung kept first s holes store r store' =
     (old : Sheet) (cs : List Cell) → InputsAre sheet stop from last joined cells old cs
     → RowIs o sheet cells joined collapse at end width to hung kept first s holes (row_slots old.overhang cs) (full_total old.overhang cs)
     → rendered r store' ≡ give (finished (flat_columns o old cs collapse)) store
 
 -- `lay`: the call past refusals 1 to 3
-abbrev pub Lays : RenderOptions → List ℕ → ℕ → ℕ → ℕ → Bool → List ℕ → Bool → List ℕ → Rendered → List ℕ → Type 0
+abbrev pub Lays : RenderOptions → List ℕ → ℕ → ℕ → ℕ → Bool → List ℕ → Bool → List ℕ → Result ℕ Refusal → List ℕ → Type 0
 Lays o sheet stop from last joined cells collapse store r store' =
     (old : Sheet) (cs : List Cell) → InputsAre sheet stop from last joined cells old cs
     → rendered r store'

@@ -47,7 +47,7 @@ fn put_holed(
     Lines {
         at: p.at,
         count: lines.count + 1,
-        long: lines.long,
+        ..lines
     }
 }
 

@@ -11,8 +11,9 @@ ghost use Rattle.append_columns.specs.Lay.{Asks, HandsNames, OldIn, AddsAll, Lay
 use crate::below::add_below;
 use crate::old::add_old;
 use extend_lines::copy::hand_on;
-use extend_lines::line::{Lines, close};
-use fields::answer::{Rendered, refuse};
+use extend_lines::line::Lines;
+use fields::answer::refuse;
+use fields::refusal::Refusal;
 use overhang::hang::hang_on;
 use row_fit::row::row_fit;
 use row_lines::full::add_row;
@@ -21,54 +22,36 @@ use seats::keep::{Kept, keep_seats};
 use seats::survey::{Surveyed, survey};
 use slots::seat::{Slots, first_slots};
 
-// The refusal of a row, 6 or 10, or 0; and whether the border below it has holes.
-#[derive(Clone, Copy)]
-pub struct Asked {
-    pub refusal: u8,
-    pub holes: bool,
-}
-
 // Collapsing meets a first border, and there is no border above it.
 fn no_border_above(top: bool, joined: bool, collapse: bool) -> bool
     ensures { result ≡ (collapse && top && not joined) }
 {
-    if !collapse {
-        return false;
-    }
-    if !top {
-        return false;
-    }
-    !joined
+    collapse && top && !joined
 }
 
-// What is asked of a row before anything is written: of a plain one it is known.
-fn ask(cells: &[u8], sheet: &[u8], first: Slots, joined: bool, collapse: bool, s: Surveyed) -> Asked
+// What is asked of a row before anything is written, refusal 6 and then 10: whether the border below it has holes. Of a plain row it is known.
+fn ask(
+    cells: &[u8],
+    sheet: &[u8],
+    first: Slots,
+    joined: bool,
+    collapse: bool,
+    s: Surveyed,
+) -> Result<bool, Refusal>
     requires { SlotsIn cells.now sheet.now first × SurveyIn s }
     ensures { Asks cells.now sheet.now first joined collapse s result }
 {
     if no_border_above(s.top, joined, collapse) {
-        return Asked {
-            refusal: 6,
-            holes: false,
-        };
+        return Err(Refusal::NoBorderAbove);
     }
     if s.plain {
-        return Asked {
-            refusal: 0,
-            holes: false,
-        };
+        return Ok(false);
     }
     let fit = row_fit(cells, sheet, first, collapse, joined, s.total, s.height);
     if fit.misfit {
-        return Asked {
-            refusal: 10,
-            holes: false,
-        };
+        return Err(Refusal::OverhangMisfit);
     }
-    Asked {
-        refusal: 0,
-        holes: fit.holes,
-    }
+    Ok(fit.holes)
 }
 
 // The names that wait on the sheet, between the two places, are handed on where the row has no line to take them.
@@ -110,7 +93,7 @@ fn add_all(
     s: Surveyed,
     holes: bool,
     store: &mut [u8],
-) -> Rendered
+) -> Result<usize, Refusal>
     requires old_in { OldIn sheet.now stop from last joined × RowIn cells.now sheet.now at.now end.now width.now kept }
     requires narrow { Narrow width.now to.now kept.n × SlotsIn cells.now sheet.now first × SurveyIn s }
     ensures { AddsAll options sheet.now stop from last joined cells.now collapse
@@ -172,10 +155,10 @@ fn add_all(
     );
     let tail = hand_names(store, lines, sheet, stop, from, s.height);
     if s.plain {
-        return close(tail, store);
+        return tail.close(store);
     }
     let all = hang_on(store, tail, options, cells, sheet, from, collapse, s.height);
-    close(all, store)
+    all.close(store)
 }
 
 // The row, with the room that it needs.
@@ -189,7 +172,7 @@ pub fn lay(
     cells: &[u8],
     collapse: bool,
     store: &mut [u8],
-) -> Rendered
+) -> Result<usize, Refusal>
     requires { OldIn sheet.now stop from last joined }
     ensures { Lays options sheet.now stop from last joined cells.now collapse store.old result store.new }
 {
@@ -206,28 +189,11 @@ pub fn lay(
     let s = survey(
         cells, sheet, &at, &end, &width, &span, &hung, kept, collapse,
     );
-    let asked = ask(cells, sheet, first, joined, collapse, s);
-    if asked.refusal != 0 {
-        return refuse(asked.refusal, store);
+    match ask(cells, sheet, first, joined, collapse, s) {
+        Err(refusal) => refuse(refusal, store),
+        Ok(holes) => add_all(
+            options, sheet, stop, from, last, joined, cells, collapse, &at, &end, &width, &to,
+            &hung, kept, first, s, holes, store,
+        ),
     }
-    add_all(
-        options,
-        sheet,
-        stop,
-        from,
-        last,
-        joined,
-        cells,
-        collapse,
-        &at,
-        &end,
-        &width,
-        &to,
-        &hung,
-        kept,
-        first,
-        s,
-        asked.holes,
-        store,
-    )
 }

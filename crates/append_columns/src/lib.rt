@@ -11,16 +11,27 @@ mod old;
 
 ghost use Rattle.std.specs.Prelude.{◌≡◌};
 ghost use Rattle.fields.specs.Answer.{rendered};
+ghost use Rattle.fields.specs.Refusal.{number_of};
 ghost use Rattle.rows.specs.Answer.{columns_answer};
+ghost use Rattle.checks.proofs.Verdicts.{columns_number};
 
 use crate::lay::lay;
 use crate::old::ends_in_border;
 use bodies::walk::last_line;
-use checks::cells::cells_refusal;
-use checks::sheet::{sheet_parts, sheet_refusal};
-use fields::answer::{Rendered, refuse};
-use fields::field::first_of;
-use rows::{RenderOptions, width_refusal};
+use checks::cells::check_cells;
+use checks::sheet::{check_sheet, sheet_parts};
+use fields::answer::refuse;
+use fields::judge::check_width;
+use fields::refusal::{Refusal, first_of};
+use rows::RenderOptions;
+
+// Refusals 1 to 3 of the inputs: the first of them all.
+fn check_inputs(options: RenderOptions, sheet: &[u8], cells: &[u8]) -> Result<(), Refusal>
+    ensures { number_of result ≡ columns_number options sheet.now cells.now }
+{
+    let inputs = first_of(check_sheet(sheet), check_cells(cells));
+    first_of(inputs, check_width(options.width))
+}
 
 // The cells as a row under the sheet's last line, with the cells that hang from it; collapsing takes off the cells' first and last borders.
 // Number, length and every byte of the store are those of `columns_answer`.
@@ -30,13 +41,11 @@ pub fn append_columns_with_borders(
     cells: &[u8],
     collapse: bool,
     store: &mut [u8],
-) -> Rendered
+) -> Result<usize, Refusal>
     ensures { rendered result store.new ≡ columns_answer options sheet.now cells.now collapse store.old }
 {
-    let inputs = first_of(sheet_refusal(sheet), cells_refusal(cells));
-    let n = first_of(inputs, width_refusal(options.width));
-    if n != 0 {
-        return refuse(n, store);
+    if let Err(refusal) = check_inputs(options, sheet, cells) {
+        return refuse(refusal, store);
     }
     let parts = sheet_parts(sheet);
     let stop = parts.names;

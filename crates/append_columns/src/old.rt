@@ -7,7 +7,7 @@ ghost use Rattle.seats.specs.Keep.{RowIn};
 ghost use Rattle.append_columns.specs.Old.{EndsInBorder, PutsJoined, PutsPrev, AddsOld};
 
 use extend_lines::copy::copy_lines;
-use extend_lines::line::{Lines, no_lines, put_border, too_long};
+use extend_lines::line::{Lines, put_border, too_long};
 use fields::store::{put_byte, put_bytes, put_head, put_two};
 use places::border::border_parts;
 use row_borders::border::prev_border;
@@ -128,9 +128,9 @@ pub fn add_old(
         kept collapse out.new result }
 {
     if !joined {
-        return copy_lines(out, no_lines(), &sheet[5..stop]);
+        return copy_lines(out, Lines::new(), &sheet[5..stop]);
     }
-    let old = copy_lines(out, no_lines(), &sheet[5..last]);
+    let old = copy_lines(out, Lines::new(), &sheet[5..last]);
     put_prev_border(
         out,
         old,

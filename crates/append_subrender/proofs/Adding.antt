@@ -8,14 +8,12 @@ use mathlib.Core.List.{List, [], ◌∷◌, map, append-nil}
 use Prim.Native.Nat.{ℕ, suc, ◌+◌, ◌-◌, ◌*◌, ◌≤◌, ◌<◌}
 use native.Mathlib.Omega.{arith}
 use lib.Dec.{leb, ltb, eqb}
-use lib.ListN.{length, take, drop, length-drop}
-use lib.Seq.{length-take-le}
+use lib.ListN.{length, take, drop}
 use borrow.Author.Tests.{ne_eqb}
-use Rattle.std.specs.Prelude.{if◌then◌else◌}
+use Rattle.std.specs.Prelude.{Option as RustOption, None, Some, if◌then◌else◌}
 use Rattle.characters.proofs.Tests.{by_if, and_left, and_right, or_left, or_right}
 use Rattle.fields.specs.Field.{Raw, whole, broken, raws, read_all, all}
-use Rattle.fields.specs.Sheet.{Piece, str, fragment, read_str, read_piece, is_segment}
-use Rattle.fields.proofs.Fields.{FieldIs}
+use Rattle.fields.specs.Sheet.{Piece, str, fragment, read_str, read_piece, read_prefix, is_segment}
 use Rattle.fields.proofs.Back.{Every, GoodPiece}
 use Rattle.borders.specs.BorderHoriz.{stretch_to}
 use Rattle.fields.specs.TaggedLine.{push_str, add_pieces}
@@ -39,10 +37,10 @@ use Rattle.extend_lines.specs.declared.line.Lines.{Lines}
 use Rattle.extend_lines.proofs.Emitting.{one_more}
 use Rattle.extend_lines.proofs.Naming.{names_back, named_unfit}
 use Rattle.append_subrender.specs.Misfit.{overlapping, guest_misfit, behind_prefix, behind_prefixes}
-use Rattle.append_subrender.specs.Prefixes.{Placed, current, Coming, Found, Steps, no_prefix, NamesOf, AddsPrefixed, Adds, added, AddsGuest}
-use Rattle.append_subrender.specs.declared.prefixed.Prefix.{Prefix}
+use Rattle.append_subrender.specs.Prefixes.{Coming, Found, Steps, NamesOf, AddsPrefixed, Adds, added, AddsGuest}
+use Rattle.append_subrender.specs.declared.prefix.Prefix.{Prefix}
 use Rattle.append_subrender.specs.declared.prefixed.Added.{Added}
-use Rattle.append_subrender.proofs.Pairing.{paired_on, paired_none, paired_out, misfit_on, all_come, none_placed}
+use Rattle.append_subrender.proofs.Pairing.{paired_on, paired_none, paired_out, misfit_on, all_come}
 use Rattle.append_subrender.proofs.Waiting.{waits_is, named_pieces, named_marks, adds_none, adds_line, adds_then}
 
 -- ---- numbers
@@ -134,7 +132,7 @@ text_pieces letter bytes g is read = go (read_all read_piece (raws bytes)) refl 
 pub prefixed_text : (o₀ o₁ o₂ o₃ o₄ : List ℕ) (p r : Lines) (s : RenderOptions) (names prefix : List ℕ) (cols letter : ℕ) (bytes : List ℕ) (new head line : Line)
     (waits : Bool) → Bytes names → waits ≡ ltb 0 (length names) → letter ≡ 0x4C → length o₃ ≡ length o₀ → BeginsLine o₀ names o₁ new
     → Pushes o₁ new s.annotation prefix cols o₂ head → AddsPieces o₂ head bytes true waits o₃ line → AddsTextLine o₃ p line s o₄ r
-    → AddsPrefixed o₀ p s names prefix cols letter bytes o₄ r
+    → AddsPrefixed o₀ p s names prefix cols (whole letter bytes) o₄ r
 prefixed_text o₀ o₁ o₂ o₃ o₄ p r s names prefix cols letter bytes new head line waits known wait el size begin push add end ns g reads read ok apart formed wide st ls e =
     let (ps, same, pieces, good) = text_pieces letter bytes g el read in
     let l = push_str (map fragment ns) s.annotation prefix in
@@ -144,7 +142,7 @@ prefixed_text o₀ o₁ o₂ o₃ o₄ p r s names prefix cols letter bytes new 
 
 -- Names of more than 65,535 bytes: the line is too long.
 pub prefixed_long : (out : List ℕ) (p r : Lines) (s : RenderOptions) (names prefix : List ℕ) (cols letter : ℕ) (bytes : List ℕ) → Bytes names
-    → 65535 < length names → OneLineMore p r → r.long ≡ true → AddsPrefixed out p s names prefix cols letter bytes out r
+    → 65535 < length names → OneLineMore p r → r.long ≡ true → AddsPrefixed out p s names prefix cols (whole letter bytes) out r
 prefixed_long out p r s names prefix cols letter bytes known many more long ns g reads read ok apart formed wide st ls e =
     let n : length (names_bytes ns) ≡ length names = ap length (names_back names ns known reads) in
     let k : 65535 < length (names_bytes ns) = omega (arith, n, many) in
@@ -200,7 +198,7 @@ own_segments segs =
 pub prefixed_border : (o₀ o₁ o₂ o₃ o₄ : List ℕ) (p r : Lines) (s : RenderOptions) (names prefix : List ℕ) (cols letter : ℕ) (bytes : List ℕ) (new head line : Line) (parts : Parts)
     → (letter ≡ 0x4C → ⊥) → length o₃ ≡ length o₀ → BeginsLine o₀ names o₁ new → Pushes o₁ new s.annotation prefix cols o₂ head → FindsParts letter bytes parts
     → PushesHoled o₂ head s.annotation bytes parts.segs parts.holes 0 o₃ line → AddsTextLine o₃ p line s o₄ r
-    → AddsPrefixed o₀ p s names prefix cols letter bytes o₄ r
+    → AddsPrefixed o₀ p s names prefix cols (whole letter bytes) o₄ r
 prefixed_border o₀ o₁ o₂ o₃ o₄ p r s names prefix cols letter bytes new head line parts other size begin push finds draw end ns (text ps) reads read ok apart formed wide st ls e =
     absurd (not_text letter bytes ps other read)
 prefixed_border o₀ o₁ o₂ o₃ o₄ p r s names prefix cols letter bytes new head line parts other size begin push finds draw end ns (border a segs hs) reads read ok apart formed wide st ls e =
@@ -215,44 +213,44 @@ prefixed_border o₀ o₁ o₂ o₃ o₄ p r s names prefix cols letter bytes ne
 -- ---- the lines of a guest
 
 -- the pairs that are left, where the prefixes to come are known
-abbrev pub AddsPairs : List ℕ → Added → RenderOptions → List ℕ → List ℕ → List ℕ → Bool → Prefix → List ℕ → Added → Type 0
-AddsPairs out p s names guest prefixes rep prefix out' r =
-    (ns : List (List ℕ)) (gs : List RenderLine) (ps : List (List ℕ)) → NamesOf (drop p.from names) ns → read_all read_line (raws guest) ≡ some gs
-    → all readable_line gs ≡ true → Coming prefixes rep prefix ps → guest_misfit rep gs ps ≡ false → Adds out p s names ns (behind_prefixes s rep gs ps) out' r
+abbrev AddsPairs : List ℕ → Added → RenderOptions → List ℕ → List Raw → List Raw → Bool → RustOption Prefix → List ℕ → Added → Type 0
+AddsPairs out p s names fields coming rep last out' r =
+    (ns : List (List ℕ)) (gs : List RenderLine) (ps : List (List ℕ)) → NamesOf (drop p.from names) ns → read_all read_line fields ≡ some gs
+    → all readable_line gs ≡ true → Coming coming rep last ps → guest_misfit rep gs ps ≡ false → Adds out p s names ns (behind_prefixes s rep gs ps) out' r
 
 -- a rest that is no field reads as no lines
-pub no_lines_read : (gs : List RenderLine) → read_all read_line (broken ∷ []) ≡ some gs → ⊥
+pub no_lines_read : (rest : List Raw) (gs : List RenderLine) → read_all read_line (broken ∷ rest) ≡ some gs → ⊥
 unfolding read_line
-no_lines_read gs e = let x = (read_first read_line broken [] gs e).first in let z : ◌≡◌ {A = ℕ} 0 1 = cc in omega arith
+no_lines_read rest gs e = let x = (read_first read_line broken rest gs e).first in let z : ◌≡◌ {A = ℕ} 0 1 = cc in omega arith
 
-module _ (out : List ℕ) (p : Added) (s : RenderOptions) (names guest prefixes : List ℕ) (rep : Bool) (prefix : Prefix) where
+module _ (out : List ℕ) (p : Added) (s : RenderOptions) (names : List ℕ) (fields coming : List Raw) (rep : Bool) (last : RustOption Prefix) where
   -- No prefix is left.
-  pub pairs_out : (q : Prefix) → Steps prefixes rep prefix q → q.found ≡ false → AddsPairs out p s names guest prefixes rep prefix out p
-  pairs_out q steps lost ns gs ps reads read ok c apart =
-      let none_left : ps ≡ [] = subst (λ (b : Bool). Found b prefixes rep q ps) lost (steps ps c) in
+  pairs_out : (coming' : List Raw) (q : RustOption Prefix) → Steps coming rep last coming' q → q ≡ None → AddsPairs out p s names fields coming rep last out p
+  pairs_out coming' q steps lost ns gs ps reads read ok c apart =
+      let none_left : ps ≡ [] = subst (λ (o : RustOption Prefix). Found o coming' rep ps) lost (steps ps c) in
       rw (none_left, paired_out s rep gs) (adds_none out p s names ns reads)
 
   -- No line is left.
-  pub pairs_none : raws guest ≡ [] → AddsPairs out p s names guest prefixes rep prefix out p
+  pairs_none : fields ≡ [] → AddsPairs out p s names fields coming rep last out p
   pairs_none is ns gs ps reads read ok c apart =
       let none_left = read_none read_line gs (sym (ap (read_all read_line) is) ∙ read) in
       rw (none_left, paired_none s rep ps) (adds_none out p s names ns reads)
 
   -- A rest that is no field.
-  pub pairs_broken : raws guest ≡ broken ∷ [] → AddsPairs out p s names guest prefixes rep prefix out p
-  pairs_broken is ns gs ps reads read ok c apart = absurd (no_lines_read gs (sym (ap (read_all read_line) is) ∙ read))
+  pairs_broken : (rest : List Raw) → fields ≡ broken ∷ rest → AddsPairs out p s names fields coming rep last out p
+  pairs_broken rest is ns gs ps reads read ok c apart = absurd (no_lines_read rest gs (sym (ap (read_all read_line) is) ∙ read))
 
   -- One pair, which takes the names that wait, and those after it.
-  pub pairs_on : (mid out' : List ℕ) (m : Lines) (r : Added) (q : Prefix) (letter : ℕ) (bytes left : List ℕ) → Steps prefixes rep prefix q → q.found ≡ true
-      → raws guest ≡ whole letter bytes ∷ raws left → AddsPrefixed out p.lines s (drop p.from names) (current prefixes q) q.cols letter bytes mid m
-      → AddsPairs mid (added m (length names)) s names left prefixes rep q out' r → AddsPairs out p s names guest prefixes rep prefix out' r
+  pairs_on : (mid out' : List ℕ) (m : Lines) (r : Added) (coming' : List Raw) (q : RustOption Prefix) (pre : Prefix) (field : Raw) (rest : List Raw) → Steps coming rep last coming' q
+      → q ≡ Some pre → fields ≡ field ∷ rest → AddsPrefixed out p.lines s (drop p.from names) pre.text.now pre.cols field mid m
+      → AddsPairs mid (added m (length names)) s names rest coming' rep q out' r → AddsPairs out p s names fields coming rep last out' r
   unfolding all
-  pairs_on mid out' m r q letter bytes left steps found is one others ns gs ps reads read ok c apart =
-      let (qs, next, coming) : Found true prefixes rep q ps = subst (λ (b : Bool). Found b prefixes rep q ps) found (steps ps c) in
-      let (formed, wide) = coming.text found in
-      let x = read_first read_line (whole letter bytes) (raws left) gs (sym (ap (read_all read_line) is) ∙ read) in
+  pairs_on mid out' m r coming' q pre field rest steps found is one others ns gs ps reads read ok c apart =
+      let (qs, next, to_come) : Found (Some pre) coming' rep ps = subst (λ (o : RustOption Prefix). Found o coming' rep ps) found (steps ps c) in
+      let (formed, wide) = to_come.formed in
+      let x = read_first read_line field rest gs (sym (ap (read_all read_line) is) ∙ read) in
       let good : all readable_line (x.one ∷ x.more) ≡ true = sym (ap (all readable_line) x.are) ∙ ok in
-      let t = current prefixes q in
+      let t = pre.text.now in
       let left_over = guest_misfit rep x.more (later rep t qs) in
       let fit : (overlapping x.one || left_over) ≡ false = sym (misfit_on rep x.one x.more t qs) ∙ sym (ap₂ (guest_misfit rep) x.are next) ∙ apart in
       let new = behind_prefix s t x.one in
@@ -260,69 +258,58 @@ module _ (out : List ℕ) (p : Added) (s : RenderOptions) (names guest prefixes 
       adds_line out p s names ns mid m t x.one
       (one ns x.one reads x.first (and_left (readable_line x.one) (all readable_line x.more) good) (or_left (overlapping x.one) left_over fit) formed wide) in
       let a₂ =
-      others (names_left ns (new ∷ [])) x.more (later rep t qs) a₁.waiting x.later (and_right (readable_line x.one) (all readable_line x.more) good) coming
+      others (names_left ns (new ∷ [])) x.more (later rep t qs) a₁.waiting x.later (and_right (readable_line x.one) (all readable_line x.more) good)
+      (subst (λ (o : RustOption Prefix). Coming coming' rep o (later rep t qs)) (sym found) to_come)
       (or_right (overlapping x.one) left_over fit) in
       rw (x.are, next, paired_on s rep x.one x.more t qs)
       (adds_then out p s names ns mid out' (added m (length names)) r (new ∷ []) (behind_prefixes s rep x.more (later rep t qs)) a₁ a₂)
 
--- Up to a place of the guest the pairs are added, and those from it on are left; the names that still wait begin at a place too.
-pub record Walk (out₀ : List ℕ) (p : Lines) (s : RenderOptions) (names guest prefixes : List ℕ) (rep : Bool) (out : List ℕ) (q : Lines) (from : ℕ) (prefix : Prefix) (at : ℕ) : Type 0 where
+-- Some pairs are added, and the others are left; the names that still wait begin at a place too.
+pub record Walk (out₀ : List ℕ) (p : Lines) (s : RenderOptions) (names guest prefixes : List ℕ) (rep : Bool) (out : List ℕ) (q : Added) (last : RustOption Prefix) (coming left : List Raw) : Type 0 where
   pub size : length out ≡ length out₀
-  pub waiting : from ≤ length names
-  pub inside : at ≤ length guest
-  pub bounds : InBounds q
-  pub placed : Placed prefixes prefix
-  pub count : q.count + length (raws (drop at guest)) ≡ p.count + length (raws guest)
-  pub lines : (out' : List ℕ) (r : Added) → AddsPairs out (added q from) s names (drop at guest) prefixes rep prefix out' r
+  pub waiting : q.from ≤ length names
+  pub bounds : InBounds q.lines
+  pub count : q.lines.count + length left ≤ p.count + length (raws guest)
+  pub lines : (out' : List ℕ) (r : Added) → AddsPairs out q s names left coming rep last out' r
       → AddsGuest out₀ p s names guest prefixes rep out' r
 
-pub walk_start : (out : List ℕ) (p : Lines) (s : RenderOptions) (names guest prefixes : List ℕ) (rep : Bool) → InBounds p
-    → Walk out p s names guest prefixes rep out p 0 no_prefix 0
-walk_start out p s names guest prefixes rep h =
+pub walk_start : (out : List ℕ) (p : Lines) (s : RenderOptions) (names guest prefixes : List ℕ) (rep : Bool) (coming left : List Raw) → InBounds p → coming ≡ raws prefixes
+    → left ≡ raws guest → Walk out p s names guest prefixes rep out (added p 0) None coming left
+walk_start out p s names guest prefixes rep coming left h e is =
     record {
       size = refl;
       waiting = omega arith;
-      inside = omega arith;
       bounds = h;
-      placed = none_placed prefixes;
-      count = refl;
-      lines = λ out' r pairs ns gs ps names-read read ok reads readable apart. pairs ns gs ps names-read read ok (all_come prefixes rep ps reads readable) apart;
+      count = omega (arith, ap length is);
+      lines = λ out' r pairs ns gs ps names-read read ok reads readable apart.
+          pairs ns gs ps names-read (ap (read_all read_line) is ∙ read) ok (all_come coming rep ps (ap (read_all read_prefix) e ∙ reads) readable) apart;
     }
 
-module _ (out₀ : List ℕ) (p : Lines) (s : RenderOptions) (names guest prefixes : List ℕ) (rep : Bool) (out : List ℕ) (q : Lines) (from : ℕ) (prefix : Prefix) (at : ℕ)
-    (w : Walk out₀ p s names guest prefixes rep out q from prefix at) where
+module _ (out₀ : List ℕ) (p : Lines) (s : RenderOptions) (names guest prefixes : List ℕ) (rep : Bool) (out : List ℕ) (q : Added) (last : RustOption Prefix) (coming left : List Raw)
+    (w : Walk out₀ p s names guest prefixes rep out q last coming left) where
   -- one pair on
-  pub walk_on : (letter start next : ℕ) (out' : List ℕ) (r : Lines) (pre : Prefix) → p.count + length (raws guest) < 1000000 → FieldIs guest at letter start next
-      → Placed prefixes pre → Steps prefixes rep prefix pre → pre.found ≡ true → OneLineMore q r → length out' ≡ length out
-      → AddsPrefixed out q s (take (length names - from) (drop from names)) (current prefixes pre) pre.cols letter (take (next - start) (drop start guest)) out' r
-      → Walk out₀ p s names guest prefixes rep out' r (length names) pre next
-  walk_on letter start next out' r pre few f placed steps found more same one =
-      let n : length (raws (drop at guest)) ≡ suc (length (raws (drop next guest))) = ap length f.fields in
+  pub walk_on : (field : Raw) (rest : List Raw) (out' : List ℕ) (r : Lines) (coming' : List Raw) (found : RustOption Prefix) (pre : Prefix) → p.count + length (raws guest) < 1000000
+      → left ≡ field ∷ rest → Steps coming rep last coming' found → found ≡ Some pre → OneLineMore q.lines r → length out' ≡ length out
+      → AddsPrefixed out q.lines s (take (length names - q.from) (drop q.from names)) pre.text.now pre.cols field out' r
+      → Walk out₀ p s names guest prefixes rep out' (added r (length names)) found coming' rest
+  walk_on field others out' r coming' found pre few is steps there more same one =
+      let n : length left ≡ suc (length others) = ap length is in
       record {
         size = same ∙ w.size;
         waiting = omega arith;
-        inside = f.inside;
-        bounds = next_bounds q r w.bounds more (omega (arith, n, w.count));
-        placed = placed;
+        bounds = next_bounds q.lines r w.bounds more (omega (arith, n, w.count, few));
         count = omega (arith, n, w.count, more.count);
-        lines = λ out'' z others.
+        lines = λ out'' z pairs.
             w.lines out'' z
-            (pairs_on out (added q from) s names (drop at guest) prefixes rep prefix out' out'' r z pre letter (take (next - start) (drop start guest)) (drop next guest) steps found f.fields
-            (rw (rest names from) at one) others);
+            (pairs_on out q s names left coming rep last out' out'' r z coming' found pre field others steps there is (rw (rest names q.from) at one) pairs);
       }
 
   -- the ends
-  pub walk_out : (pre : Prefix) → Steps prefixes rep prefix pre → pre.found ≡ false → AddsGuest out₀ p s names guest prefixes rep out (added q from)
-  walk_out pre steps lost = w.lines out (added q from) (pairs_out out (added q from) s names (drop at guest) prefixes rep prefix pre steps lost)
+  pub walk_out : (coming' : List Raw) (found : RustOption Prefix) → Steps coming rep last coming' found → found ≡ None → AddsGuest out₀ p s names guest prefixes rep out q
+  walk_out coming' found steps lost = w.lines out q (pairs_out out q s names left coming rep last coming' found steps lost)
 
-  pub walk_end_lem : raws (drop at guest) ≡ [] → AddsGuest out₀ p s names guest prefixes rep out (added q from)
-  walk_end_lem is = w.lines out (added q from) (pairs_none out (added q from) s names (drop at guest) prefixes rep prefix is)
+  pub walk_end : left ≡ [] → AddsGuest out₀ p s names guest prefixes rep out q
+  walk_end is = w.lines out q (pairs_none out q s names left coming rep last is)
 
-  pub walk_broken : raws (drop at guest) ≡ broken ∷ [] → AddsGuest out₀ p s names guest prefixes rep out (added q from)
-  walk_broken is = w.lines out (added q from) (pairs_broken out (added q from) s names (drop at guest) prefixes rep prefix is)
-
--- the size of a prefix
-pub prefix_size : (s : List ℕ) (p : Prefix) → Placed s p → length (take (p.to - p.from) (drop p.from s)) < 65536
-prefix_size s p k =
-    let n = length-take-le (p.to - p.from) (drop p.from s) (omega (arith, k.order, k.inside, length-drop p.from s)) in
-    omega (arith, k.order, k.size, k.inside, length-drop p.from s, n)
+  pub walk_broken : (others : List Raw) → left ≡ broken ∷ others → AddsGuest out₀ p s names guest prefixes rep out q
+  walk_broken others is = w.lines out q (pairs_broken out q s names left coming rep last others is)

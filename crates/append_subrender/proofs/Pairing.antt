@@ -6,17 +6,16 @@ use mathlib.Core.Bool.{Bool, true, false, not, ◌||◌}
 use mathlib.Core.Option
 use mathlib.Core.Option.{Option, none, some}
 use mathlib.Core.List.{List, [], ◌∷◌, ◌++◌, map}
-use Prim.Native.Nat.{ℕ, zero, suc, ◌+◌, ◌-◌, ◌*◌, ◌≤◌, ◌<◌}
+use Prim.Native.Nat.{ℕ, zero, suc, ◌+◌, ◌≤◌}
 use native.Mathlib.Omega.{arith}
 use lib.Dec.{eqb}
-use lib.ListN.{length, take, drop}
-use Rattle.std.specs.Prelude.{if◌then◌else◌}
+use lib.ListN.{length, take}
+use Rattle.std.specs.Prelude.{Option as RustOption, None, Some, if◌then◌else◌}
 use Rattle.characters.proofs.Tests.{and_left, and_right}
-use Rattle.fields.specs.Field.{whole, broken, raws, read_all, all, part}
+use Rattle.fields.specs.Field.{Raw, whole, broken, read_all, all, part}
 use Rattle.fields.specs.Text.{readable_text}
 use Rattle.fields.specs.Sheet.{read_prefix}
 use Rattle.fields.specs.Widths.{piece_width, text_width}
-use Rattle.fields.proofs.Fields.{FieldIs}
 use Rattle.borders.specs.BorderSegHoriz.{Horiz}
 use Rattle.borders.specs.BorderHoriz.{new_type, to_string, ◌>>=◌, as_str, sliceable, to_string_from, holed_to_string}
 use Rattle.fields.specs.TaggedLine.{push_str}
@@ -29,10 +28,9 @@ use Rattle.rows.proofs.Adding.{extend_named}
 use Rattle.fields.specs.Spans.{Hole, RenderLine, text, border, Cell}
 use Rattle.rows.specs.Columns.{none_if, overlaps, holed_text}
 use Rattle.fields.proofs.Readings.{read_first, read_none}
-use Rattle.tagged_line.proofs.Laying.{content_size}
 use Rattle.append_subrender.specs.Misfit.{overlapping, any_overlapping, guest_misfit, cells_misfit, behind_prefix, behind_prefixes, cell_lines}
-use Rattle.append_subrender.specs.Prefixes.{Placed, current, coming, Coming, Steps, again, no_prefix}
-use Rattle.append_subrender.specs.declared.prefixed.Prefix.{Prefix}
+use Rattle.append_subrender.specs.Prefixes.{coming, Coming, Steps}
+use Rattle.append_subrender.specs.declared.prefix.Prefix.{Prefix}
 
 -- ---- lines and prefixes in pairs
 
@@ -264,87 +262,65 @@ prefix_is l t p e = go (eqb l 0x50) e
     go false e = absurd (let z : ◌≡◌ {A = ℕ} 0 1 = cc in omega arith)
 
 -- a rest that is no field is no list of prefixes
-no_prefixes : (ps : List (List ℕ)) → read_all read_prefix (broken ∷ []) ≡ some ps → ⊥
+no_prefixes : (rest : List Raw) (ps : List (List ℕ)) → read_all read_prefix (broken ∷ rest) ≡ some ps → ⊥
 unfolding read_prefix
-no_prefixes ps e = let r = read_first read_prefix broken [] ps e in let x = r.first in let z : ◌≡◌ {A = ℕ} 0 1 = cc in omega arith
+no_prefixes rest ps e = let r = read_first read_prefix broken rest ps e in let x = r.first in let z : ◌≡◌ {A = ℕ} 0 1 = cc in omega arith
 
--- one prefix more is the next, found before or not
-next_comes : (found rep : Bool) (p q : List ℕ) (qs : List (List ℕ)) → coming found rep p (q ∷ qs) ≡ q ∷ qs
-next_comes true rep p q qs = refl
-next_comes false rep p q qs = refl
-
--- the prefix that a field holds
-abbrev held : ℕ → ℕ → ℕ → Prefix
-held start next cols = record { found = true; from = start; to = next; cols = cols }
+-- one prefix more is the next, after one or the first
+next_comes : (last : RustOption Prefix) (rep : Bool) (q : List ℕ) (qs : List (List ℕ)) → coming last rep (q ∷ qs) ≡ q ∷ qs
+next_comes None rep q qs = refl
+next_comes (Some p) rep q qs = refl
 
 -- The next prefix, found.
-pub next_found : (s : List ℕ) (rep : Bool) (p : Prefix) (letter start next cols : ℕ) → FieldIs s p.to letter start next
-    → length (take (next - start) (drop start s)) < 65536 → cols ≤ 2 * length (take (next - start) (drop start s)) → cols ≡ text_width (take (next - start) (drop start s))
-    → Placed s (held start next cols) × Steps s rep p (held start next cols)
+pub next_found : (left left' : List Raw) (rep : Bool) (last : RustOption Prefix) (letter : ℕ) (r : Prefix) → left ≡ whole letter r.text.now ∷ left' → r.cols ≡ text_width r.text.now
+    → Steps left rep last left' (Some r)
 unfolding all
-next_found s rep p letter start next cols f short few e = (
-  record {
-    order = f.order;
-    inside = f.inside;
-    size = omega (arith, content_size s p.to letter start next f);
-    cols = omega (arith, few);
-  },
-  λ ps c.
-      let t = take (next - start) (drop start s) in
-      let x = read_first read_prefix (whole letter t) (raws (drop next s)) c.after (sym (ap (read_all read_prefix) f.fields) ∙ c.reads) in
-      let is : c.after ≡ t ∷ x.more = x.are ∙ ap (λ (q : List ℕ). q ∷ x.more) (prefix_is letter t x.one x.first) in
-      let ok : all (readable_text false) (t ∷ x.more) ≡ true = sym (ap (all (readable_text false)) is) ∙ c.readable in (
-        x.more,
-        c.all_coming ∙ ap (coming p.found rep (current s p)) is ∙ next_comes p.found rep (current s p) t x.more,
-        record {
-          after = x.more;
-          reads = x.later;
-          readable = and_right (readable_text false t) (all (readable_text false) x.more) ok;
-          all_coming = refl;
-          text = λ _. (readable_formed false t (and_left (readable_text false t) (all (readable_text false) x.more) ok), sym e);
-        },
-      ),
-)
-
--- no prefix is left but the last, if it repeats
-last_again : (s : List ℕ) (found rep : Bool) (from to cols : ℕ) → raws (drop to s) ≡ []
-    → Steps s rep (record { found = found; from = from; to = to; cols = cols }) (again (record { found = found; from = from; to = to; cols = cols }) rep)
-last_again s false rep from to cols b ps c =
-    let none_left = read_none read_prefix c.after (sym (ap (read_all read_prefix) b) ∙ c.reads) in
-    c.all_coming ∙ none_left
-last_again s true false from to cols b ps c =
-    let none_left = read_none read_prefix c.after (sym (ap (read_all read_prefix) b) ∙ c.reads) in
-    c.all_coming ∙ ap (later false (current s (record { found = true; from = from; to = to; cols = cols }))) none_left
-last_again s true true from to cols b ps c =
-    let none_left = read_none read_prefix c.after (sym (ap (read_all read_prefix) b) ∙ c.reads) in (
-      [],
-      c.all_coming ∙ ap (later true _) none_left,
+next_found left left' rep last letter r is e ps c =
+    let t = r.text.now in
+    let x = read_first read_prefix (whole letter t) left' c.after (sym (ap (read_all read_prefix) is) ∙ c.reads) in
+    let all_after : c.after ≡ t ∷ x.more = x.are ∙ ap (λ (q : List ℕ). q ∷ x.more) (prefix_is letter t x.one x.first) in
+    let ok : all (readable_text false) (t ∷ x.more) ≡ true = sym (ap (all (readable_text false)) all_after) ∙ c.readable in (
+      x.more,
+      c.all_coming ∙ ap (coming last rep) all_after ∙ next_comes last rep t x.more,
       record {
-        after = c.after;
-        reads = c.reads;
-        readable = c.readable;
-        all_coming = ap (later true _) (sym none_left);
-        text = c.text;
+        after = x.more;
+        reads = x.later;
+        readable = and_right (readable_text false t) (all (readable_text false) x.more) ok;
+        all_coming = refl;
+        formed = (readable_formed false t (and_left (readable_text false t) (all (readable_text false) x.more) ok), sym e);
       },
     )
 
-placed_again : (s : List ℕ) (p : Prefix) (rep : Bool) → Placed s p → Placed s (again p rep)
-placed_again s p rep k = record { order = k.order; inside = k.inside; size = k.size; cols = k.cols }
+-- no prefix is left but the last, if it repeats
+module _ (left left' : List Raw) (is : left ≡ []) (is' : left' ≡ []) where
+  none_after : (rep : Bool) (last : RustOption Prefix) (ps : List (List ℕ)) (c : Coming left rep last ps) → c.after ≡ []
+  none_after rep last ps c = read_none read_prefix c.after (sym (ap (read_all read_prefix) is) ∙ c.reads)
 
--- Past the last.
-pub next_last : (s : List ℕ) (rep : Bool) (p r : Prefix) → Placed s p → raws (drop p.to s) ≡ [] → r ≡ again p rep → Placed s r × Steps s rep p r
-next_last s rep p r k b e = rw e (placed_again s p rep k, last_again s p.found rep p.from p.to p.cols b)
+  -- None is left.
+  pub last_out : (rep : Bool) (last : RustOption Prefix) → rep ≡ false → Steps left rep last left' None
+  last_out rep None e ps c = c.all_coming ∙ none_after rep None ps c
+  last_out rep (Some p) e ps c = c.all_coming ∙ ap (later rep p.text.now) (none_after rep (Some p) ps c) ∙ rw e
+
+  -- The last comes again.
+  pub last_again : (rep : Bool) (last : RustOption Prefix) → rep ≡ true → Steps left rep last left' last
+  last_again rep None e ps c = c.all_coming ∙ none_after rep None ps c
+  last_again rep (Some p) e ps c = (
+    [],
+    c.all_coming ∙ ap (later rep p.text.now) (none_after rep (Some p) ps c) ∙ rw e,
+    record {
+      after = [];
+      reads = rw (is', ← is, ← none_after rep (Some p) ps c) c.reads;
+      readable = rw (← none_after rep (Some p) ps c) c.readable;
+      all_coming = refl;
+      formed = c.formed;
+    },
+  )
 
 -- A rest that is no field: such prefixes were not read.
-pub next_broken : (s : List ℕ) (rep : Bool) (p r : Prefix) → Placed s p → raws (drop p.to s) ≡ broken ∷ [] → r ≡ again p rep → Placed s r × Steps s rep p r
-next_broken s rep p r k b e =
-    rw e (placed_again s p rep k, λ ps c. absurd (no_prefixes c.after (sym (ap (read_all read_prefix) b) ∙ c.reads)))
+pub next_broken : (left left' rest : List Raw) (rep : Bool) (last r : RustOption Prefix) → left ≡ broken ∷ rest → Steps left rep last left' r
+next_broken left left' rest rep last r is ps c = absurd (no_prefixes rest c.after (sym (ap (read_all read_prefix) is) ∙ c.reads))
 
 -- THE PREFIXES THAT WERE READ ARE THOSE TO COME.
-pub all_come : (s : List ℕ) (rep : Bool) (ps : List (List ℕ)) → read_all read_prefix (raws s) ≡ some ps → all (readable_text false) ps ≡ true
-    → Coming s rep no_prefix ps
-all_come s rep ps e ok =
-    record { after = ps; reads = e; readable = ok; all_coming = refl; text = λ z. absurd (let k : ◌≡◌ {A = ℕ} 0 1 = cc in omega arith) }
-
-pub none_placed : (s : List ℕ) → Placed s no_prefix
-none_placed s = record { order = omega arith; inside = omega arith; size = omega arith; cols = omega arith }
+pub all_come : (fields : List Raw) (rep : Bool) (ps : List (List ℕ)) → read_all read_prefix fields ≡ some ps → all (readable_text false) ps ≡ true
+    → Coming fields rep None ps
+all_come fields rep ps e ok = record { after = ps; reads = e; readable = ok; all_coming = refl; formed = tt }

@@ -1,10 +1,10 @@
 -- The inputs of the two calls where no refusal of 1 to 3 is found: they are read and pass, and the verdict is what follows these refusals.
 -- Assumes nothing.
-use mathlib.Core.Path.{◌≡◌, refl, sym, ◌∙◌}
+use mathlib.Core.Path.{◌≡◌, refl, sym}
 use mathlib.Core.Bool.{Bool, true, false}
 use mathlib.Core.Option.{Option, none, some}
 use mathlib.Core.List.{List}
-use Prim.Native.Nat.{ℕ}
+use Prim.Native.Nat.{ℕ, ◌≤◌}
 use native.Mathlib.Omega.{arith}
 use Rattle.std.specs.Prelude.{if◌then◌else◌}
 use Rattle.fields.specs.Field.{all}
@@ -16,6 +16,7 @@ use Rattle.fields.specs.Spans.{Sheet, Cell, read_sheet, read_plain_cells, readab
 use Rattle.fields.specs.SpanRefusals.{sheet_refusal, plain_cells_refusal}
 use Rattle.rows.specs.Answer.{width_refusal, subrender_verdict, vert_row_verdict}
 use Rattle.rows.specs.declared.RenderOptions.{RenderOptions}
+use Rattle.extend_lines.proofs.Refusing.{sheet_low, plain_cells_low, prefixes_low, width_low, first_low}
 use Rattle.checks.proofs.Passing.{sheet_passes, plain_cells_pass}
 use Rattle.checks.proofs.Verdicts.{subrender_number, after_subrender, subrender_goes, vert_row_number, after_vert_row, vert_row_goes, first_none}
 
@@ -48,11 +49,11 @@ prefixes_pass (some ps) e = go (all (readable_text false) ps) refl e
     go false h k = absurd (omega arith)
 
 -- WHERE NO REFUSAL IS FOUND THE INPUTS PASS.
-pub subrender_passes : (n : ℕ) (s : RenderOptions) (old guest ps : List ℕ) (rep : Bool) → n ≡ subrender_number s old guest ps → n ≡ 0
+pub subrender_passes : (s : RenderOptions) (old guest ps : List ℕ) (rep : Bool) → 0 ≡ subrender_number s old guest ps
     → SubrenderPasses s (read_sheet old) (read_sheet guest) (read_prefixes ps) rep
 unfolding prefixes_refusal
-subrender_passes n s old guest ps rep e h =
-    let (a, b) = first_none (first_of (sheet_refusal old) (sheet_refusal guest)) (first_of (prefixes_refusal ps) (width_refusal s.width)) (sym e ∙ h) in
+subrender_passes s old guest ps rep e =
+    let (a, b) = first_none (first_of (sheet_refusal old) (sheet_refusal guest)) (first_of (prefixes_refusal ps) (width_refusal s.width)) (sym e) in
     let (i, j) = first_none (sheet_refusal old) (sheet_refusal guest) a in
     let x = sheet_passes old i in
     let y = sheet_passes guest j in
@@ -66,8 +67,19 @@ subrender_passes n s old guest ps rep e h =
       reads_prefixes = z.reads;
       readable_guest = y.readable;
       readable_prefixes = z.readable;
-      verdict = subrender_goes n s old guest ps rep e h x.sheet y.sheet z.prefixes x.reads y.reads z.reads;
+      verdict = subrender_goes 0 s old guest ps rep e refl x.sheet y.sheet z.prefixes x.reads y.reads z.reads;
     }
+
+-- Both sheets pass.
+pub sheets_pass : (s : RenderOptions) (old guest ps : List ℕ) → 0 ≡ subrender_number s old guest ps → (sheet_refusal old ≡ 0) × (sheet_refusal guest ≡ 0)
+sheets_pass s old guest ps e =
+    first_none (sheet_refusal old) (sheet_refusal guest)
+    (first_none (first_of (sheet_refusal old) (sheet_refusal guest)) (first_of (prefixes_refusal ps) (width_refusal s.width)) (sym e)).0
+
+-- A refusal of these inputs is 1 to 3.
+pub subrender_low : (s : RenderOptions) (old guest ps : List ℕ) → subrender_number s old guest ps ≤ 3
+subrender_low s old guest ps =
+    first_low _ _ (first_low _ _ (sheet_low old) (sheet_low guest)) (first_low _ _ (prefixes_low ps) (width_low s.width))
 
 -- ---- `append_vert_row`
 
@@ -81,9 +93,9 @@ pub record VertRowPasses (s : RenderOptions) (o : Option Sheet) (c : Option (Lis
   pub verdict : vert_row_verdict s o c ≡ after_vert_row s old cells
 
 -- WHERE NO REFUSAL IS FOUND THE INPUTS PASS.
-pub vert_row_passes : (n : ℕ) (s : RenderOptions) (old cs : List ℕ) → n ≡ vert_row_number s old cs → n ≡ 0 → VertRowPasses s (read_sheet old) (read_plain_cells cs)
-vert_row_passes n s old cs e h =
-    let (a, b) = first_none (first_of (sheet_refusal old) (plain_cells_refusal cs)) (width_refusal s.width) (sym e ∙ h) in
+pub vert_row_passes : (s : RenderOptions) (old cs : List ℕ) → 0 ≡ vert_row_number s old cs → VertRowPasses s (read_sheet old) (read_plain_cells cs)
+vert_row_passes s old cs e =
+    let (a, b) = first_none (first_of (sheet_refusal old) (plain_cells_refusal cs)) (width_refusal s.width) (sym e) in
     let (i, j) = first_none (sheet_refusal old) (plain_cells_refusal cs) a in
     let x = sheet_passes old i in
     let y = plain_cells_pass cs j in
@@ -93,5 +105,14 @@ vert_row_passes n s old cs e h =
       reads_old = x.reads;
       reads_cells = y.reads;
       readable_cells = y.readable;
-      verdict = vert_row_goes n s old cs e h x.sheet y.cells x.reads y.reads;
+      verdict = vert_row_goes 0 s old cs e refl x.sheet y.cells x.reads y.reads;
     }
+
+-- The sheet passes.
+pub sheet_alone_passes : (s : RenderOptions) (old cs : List ℕ) → 0 ≡ vert_row_number s old cs → sheet_refusal old ≡ 0
+sheet_alone_passes s old cs e =
+    (first_none (sheet_refusal old) (plain_cells_refusal cs) (first_none (first_of (sheet_refusal old) (plain_cells_refusal cs)) (width_refusal s.width) (sym e)).0).0
+
+-- A refusal of these inputs is 1 to 3.
+pub vert_row_low : (s : RenderOptions) (old cs : List ℕ) → vert_row_number s old cs ≤ 3
+vert_row_low s old cs = first_low _ _ (first_low _ _ (sheet_low old) (plain_cells_low cs)) (width_low s.width)

@@ -3,16 +3,15 @@
 use mathlib.Core.Path.{◌≡◌, refl, sym, ap, ◌∙◌}
 use mathlib.Core.Bool.{Bool, true, false, ◌||◌}
 use mathlib.Core.Option.{Option, none, some, map, some-injective}
-use mathlib.Core.List.{List, [], ◌∷◌, ◌++◌, append-nil}
-use Prim.Native.Nat.{ℕ, suc, ◌+◌, ◌-◌, ◌*◌, ◌≤◌, ◌<◌}
+use mathlib.Core.List.{List, [], ◌∷◌, ◌++◌, append_assoc, append-nil}
+use Prim.Native.Nat.{ℕ, zero, suc, ◌+◌, ◌-◌, ◌*◌, ◌≤◌, ◌<◌}
 use native.Mathlib.Omega.{arith}
-use lib.Dec.{eqb}
+use lib.Dec.{eqb, leb}
 use lib.ListN.{length, take, drop, get_or, length-drop}
-use lib.Seq.{length-take-le, drop-cons}
+use lib.Seq.{length-take-le, take_all, drop-cons}
 use Rattle.std.specs.Prelude.{if◌then◌else◌}
-use Rattle.characters.proofs.Tests.{and_left, and_right, or_left, or_right}
-use Rattle.fields.specs.Field.{whole, broken, raws, read_all, all}
-use Rattle.fields.proofs.Fields.{FieldIs}
+use Rattle.characters.proofs.Tests.{by_if, and_left, and_right, or_left, or_right}
+use Rattle.fields.specs.Field.{Raw, whole, broken, raws_f, raws, read_all, all}
 use Rattle.fields.proofs.Texts.{rest}
 use Rattle.borders.specs.BorderSegHoriz.{HorizVert}
 use Rattle.borders.specs.BorderHoriz.{new_type}
@@ -27,7 +26,7 @@ use Rattle.fields.proofs.Readings.{read_first, read_none}
 use Rattle.extend_lines.specs.Emitted.{InBounds, OneLineMore, AddsBorder}
 use Rattle.extend_lines.specs.declared.line.Lines.{Lines}
 use Rattle.append_subrender.specs.Misfit.{overlapping, any_overlapping, cells_misfit, behind_prefix, behind_prefixes, cell_lines}
-use Rattle.append_subrender.specs.Prefixes.{NamesOf, AddsPrefixed, Adds, added, AddsRule, rule_if, AddsRuleIf, AddsCell, AddsCells}
+use Rattle.append_subrender.specs.Prefixes.{NamesOf, AddsPrefixed, Adds, added, AddsRule, rule_if, AddsRuleIf, AddsLines, AddsCell, StacksCell, AddsCells}
 use Rattle.append_subrender.proofs.Pairing.{paired_on, paired_none, cells_on, cells_none, cells_misfit_on}
 use Rattle.append_subrender.specs.declared.prefixed.Added.{Added}
 use Rattle.append_subrender.proofs.Waiting.{adds_none, adds_line, adds_edge, adds_then}
@@ -54,38 +53,30 @@ rule_none out p s segment drawn e st ls em = rw (e, append-nil ls) em
 
 -- ---- the lines of one cell
 
--- no bytes between a place and itself
-none_between : (n : ℕ) (l : List ℕ) → take (n - n) l ≡ []
-none_between n l = let z : n - n ≡ 0 = omega arith in rw z
-
-pub none_few : (s : List ℕ) (n : ℕ) → length (take (n - n) (drop n s)) < 65536
-none_few s n = omega (arith, ap length (none_between n (drop n s)))
-
-module _ (out : List ℕ) (p : Added) (s : RenderOptions) (names body : List ℕ) where
+module _ (out : List ℕ) (p : Added) (s : RenderOptions) (names : List ℕ) (fields : List Raw) where
   -- No line is left.
-  cell_none : raws body ≡ [] → AddsCell out p s names body out p
+  cell_none : fields ≡ [] → AddsLines out p s names fields out p
   cell_none is ns gs reads read ok apart =
       let none_left = read_none read_line gs (sym (ap (read_all read_line) is) ∙ read) in
       rw (none_left, paired_none s true ([] ∷ [])) (adds_none out p s names ns reads)
 
   -- A rest that is no field.
-  cell_broken : raws body ≡ broken ∷ [] → AddsCell out p s names body out p
-  cell_broken is ns gs reads read ok apart = absurd (no_lines_read gs (sym (ap (read_all read_line) is) ∙ read))
+  cell_broken : (out' : List ℕ) (r : Added) (rest : List Raw) → fields ≡ broken ∷ rest → AddsLines out p s names fields out' r
+  cell_broken out' r rest is ns gs reads read ok apart = absurd (no_lines_read rest gs (sym (ap (read_all read_line) is) ∙ read))
 
   -- One line, which takes the names that wait, and those after it: the empty prefix stays.
-  cell_on : (mid out' : List ℕ) (m : Lines) (r : Added) (prefix : List ℕ) (letter : ℕ) (bytes left : List ℕ) → prefix ≡ [] → raws body ≡ whole letter bytes ∷ raws left
-      → AddsPrefixed out p.lines s (drop p.from names) prefix 0 letter bytes mid m → AddsCell mid (added m (length names)) s names left out' r
-      → AddsCell out p s names body out' r
+  cell_on : (mid out' : List ℕ) (m : Lines) (r : Added) (field : Raw) (rest : List Raw) → fields ≡ field ∷ rest
+      → AddsPrefixed out p.lines s (drop p.from names) [] 0 field mid m → AddsLines mid (added m (length names)) s names rest out' r
+      → AddsLines out p s names fields out' r
   unfolding all any_overlapping
-  cell_on mid out' m r prefix letter bytes left empty is one others ns gs reads read ok apart =
-      let x = read_first read_line (whole letter bytes) (raws left) gs (sym (ap (read_all read_line) is) ∙ read) in
+  cell_on mid out' m r field rest is one others ns gs reads read ok apart =
+      let x = read_first read_line field rest gs (sym (ap (read_all read_line) is) ∙ read) in
       let good : all readable_line (x.one ∷ x.more) ≡ true = sym (ap (all readable_line) x.are) ∙ ok in
-      let line : AddsPrefixed out p.lines s (drop p.from names) [] 0 letter bytes mid m = rw empty at one in
       let fit : (overlapping x.one || any_overlapping x.more) ≡ false = sym (ap any_overlapping x.are) ∙ apart in
       let new = behind_prefix s [] x.one in
       let a₁ =
       adds_line out p s names ns mid m [] x.one
-      (line ns x.one reads x.first (and_left (readable_line x.one) (all readable_line x.more) good) (or_left (overlapping x.one) (any_overlapping x.more) fit)
+      (one ns x.one reads x.first (and_left (readable_line x.one) (all readable_line x.more) good) (or_left (overlapping x.one) (any_overlapping x.more) fit)
       well_formed_nil text_width_nil) in
       let a₂ =
       others (names_left ns (new ∷ [])) x.more a₁.waiting x.later (and_right (readable_line x.one) (all readable_line x.more) good)
@@ -93,49 +84,49 @@ module _ (out : List ℕ) (p : Added) (s : RenderOptions) (names body : List ℕ
       rw (x.are, paired_on s true x.one x.more [] [])
       (adds_then out p s names ns mid out' (added m (length names)) r (new ∷ []) (behind_prefixes s true x.more ([] ∷ [])) a₁ a₂)
 
--- Up to a place of the cell its lines are added, and those from it on are left; the names that still wait begin at a place too.
-pub record InCell (out₀ : List ℕ) (p : Added) (s : RenderOptions) (names body out : List ℕ) (q : Lines) (from at : ℕ) : Type 0 where
+-- Some lines of the cell are added, and the others are left; the names that still wait begin at a place too.
+pub record InCell (out₀ : List ℕ) (p : Added) (s : RenderOptions) (names body out : List ℕ) (q : Added) (left : List Raw) : Type 0 where
   pub size : length out ≡ length out₀
-  pub waiting : from ≤ length names
-  pub inside : at ≤ length body
-  pub bounds : InBounds q
-  pub count : 3 * q.count ≤ 3 * p.lines.count + at
-  pub lines : (out' : List ℕ) (r : Added) → AddsCell out (added q from) s names (drop at body) out' r → AddsCell out₀ p s names body out' r
+  pub waiting : q.from ≤ length names
+  pub bounds : InBounds q.lines
+  pub count : q.lines.count + length left ≤ p.lines.count + length (raws body)
+  pub lines : (out' : List ℕ) (r : Added) → AddsLines out q s names left out' r → AddsCell out₀ p s names body out' r
 
-pub within_start : (out : List ℕ) (p : Added) (s : RenderOptions) (names body : List ℕ) → InBounds p.lines → p.from ≤ length names
-    → InCell out p s names body out p.lines p.from 0
-within_start out p s names body h k =
-    record { size = refl; waiting = k; inside = omega arith; bounds = h; count = omega arith; lines = λ out' r others. others }
+pub within_start : (out : List ℕ) (p : Added) (s : RenderOptions) (names body : List ℕ) (left : List Raw) → InBounds p.lines → p.from ≤ length names → left ≡ raws body
+    → InCell out p s names body out p left
+within_start out p s names body left h k e =
+    rw e (record { size = refl; waiting = k; bounds = h; count = omega arith; lines = λ out' r others. others })
 
-module _ (out₀ : List ℕ) (p : Added) (s : RenderOptions) (names body out : List ℕ) (q : Lines) (from at : ℕ) (w : InCell out₀ p s names body out q from at) where
+module _ (out₀ : List ℕ) (p : Added) (s : RenderOptions) (names body out : List ℕ) (q : Added) (left : List Raw) (w : InCell out₀ p s names body out q left) where
   -- one line on
-  pub within_on : (letter start next : ℕ) (out' : List ℕ) (r : Lines) → 3 * p.lines.count + length body < 3000000 → FieldIs body at letter start next
-      → OneLineMore q r → length out' ≡ length out
-      → AddsPrefixed out q s (take (length names - from) (drop from names)) (take (start - start) (drop start body)) 0 letter (take (next - start) (drop start body)) out' r
-      → InCell out₀ p s names body out' r (length names) next
-  within_on letter start next out' r few f more same one =
+  pub within_on : (field : Raw) (others : List Raw) (out' : List ℕ) (r : Lines) → p.lines.count + length (raws body) < 1000000 → left ≡ field ∷ others
+      → OneLineMore q.lines r → length out' ≡ length out → AddsPrefixed out q.lines s (take (length names - q.from) (drop q.from names)) [] 0 field out' r
+      → InCell out₀ p s names body out' (added r (length names)) others
+  within_on field others out' r few is more same one =
+      let n : length left ≡ suc (length others) = ap length is in
       record {
         size = same ∙ w.size;
         waiting = omega arith;
-        inside = f.inside;
-        bounds = next_bounds q r w.bounds more (omega (arith, w.count, w.inside));
-        count = omega (arith, w.count, more.count, f.begins, f.order);
-        lines = λ out'' z others.
-            w.lines out'' z
-            (cell_on out (added q from) s names (drop at body) out' out'' r z _ letter (take (next - start) (drop start body)) (drop next body) (none_between start (drop start body)) f.fields
-            (rw (rest names from) at one) others);
+        bounds = next_bounds q.lines r w.bounds more (omega (arith, n, w.count, few));
+        count = omega (arith, n, w.count, more.count);
+        lines = λ out'' z lines. w.lines out'' z (cell_on out q s names left out' out'' r z field others is (rw (rest names q.from) at one) lines);
       }
 
-  -- its lines are few
-  pub within_few : 3 * q.count ≤ 3 * p.lines.count + length body
-  within_few = omega (arith, w.count, w.inside)
+  -- a rest that is no field is passed over
+  pub within_broken : (others : List Raw) → left ≡ broken ∷ others → InCell out₀ p s names body out q others
+  within_broken others is =
+      let n : length left ≡ suc (length others) = ap length is in
+      record {
+        size = w.size;
+        waiting = w.waiting;
+        bounds = w.bounds;
+        count = omega (arith, n, w.count);
+        lines = λ out' r lines. w.lines out' r (cell_broken out q s names left out' r others is);
+      }
 
-  -- the ends
-  pub within_end : raws (drop at body) ≡ [] → AddsCell out₀ p s names body out (added q from)
-  within_end is = w.lines out (added q from) (cell_none out (added q from) s names (drop at body) is)
-
-  pub within_broken : raws (drop at body) ≡ broken ∷ [] → AddsCell out₀ p s names body out (added q from)
-  within_broken is = w.lines out (added q from) (cell_broken out (added q from) s names (drop at body) is)
+  -- the end
+  pub within_end : left ≡ [] → AddsCell out₀ p s names body out q
+  within_end is = w.lines out q (cell_none out q s names left is)
 
 -- ---- the cells one after the other
 
@@ -148,9 +139,9 @@ between_is s true = refl
 between_is s false = refl
 
 -- the cells that are left, the first of all among them or not
-abbrev AddsFrom : Bool → List ℕ → Added → RenderOptions → List ℕ → List ℕ → List ℕ → Added → Type 0
-AddsFrom first out p s names cells out' r =
-    (ns : List (List ℕ)) (cs : List Cell) → NamesOf (drop p.from names) ns → read_all read_plain_cell (raws cells) ≡ some cs → all readable_cell cs ≡ true
+abbrev AddsFrom : Bool → List ℕ → Added → RenderOptions → List ℕ → List Raw → List ℕ → Added → Type 0
+AddsFrom first out p s names fields out' r =
+    (ns : List (List ℕ)) (cs : List Cell) → NamesOf (drop p.from names) ns → read_all read_plain_cell fields ≡ some cs → all readable_cell cs ≡ true
     → cells_misfit cs ≡ false → Adds out p s names ns (cell_lines s first cs) out' r
 
 -- the lines of a cell that is read
@@ -175,139 +166,147 @@ no_width_lem letter c e = go (eqb letter 0x43) e
     go true e = let z : ◌≡◌ {A = ℕ} 0 1 = cc in omega arith
     go false e = let z : ◌≡◌ {A = ℕ} 0 1 = cc in omega arith
 
-pub no_cells_read : (cs : List Cell) → read_all read_plain_cell (broken ∷ []) ≡ some cs → ⊥
+pub no_cells_read : (rest : List Raw) (cs : List Cell) → read_all read_plain_cell (broken ∷ rest) ≡ some cs → ⊥
 unfolding read_plain_cell
-no_cells_read cs e = let x = (read_first read_plain_cell broken [] cs e).first in let z : ◌≡◌ {A = ℕ} 0 1 = cc in omega arith
+no_cells_read rest cs e = let x = (read_first read_plain_cell broken rest cs e).first in let z : ◌≡◌ {A = ℕ} 0 1 = cc in omega arith
 
-module _ (first : Bool) (out : List ℕ) (p : Added) (s : RenderOptions) (names cells : List ℕ) where
+-- each field has three bytes at least, but for a rest that is none
+thirds : (f : ℕ) (bs : List ℕ) → 3 * length (raws_f f bs) ≤ length bs + 2
+unfolding raws_f
+thirds zero bs = omega arith
+thirds (suc f) [] = omega arith
+thirds (suc f) (l ∷ []) = omega arith
+thirds (suc f) (l ∷ x ∷ []) = omega arith
+thirds (suc f) (l ∷ x ∷ o ∷ rest) =
+    let n = x * 256 + o in
+    by_if (λ (rs : List Raw). 3 * length rs ≤ length (l ∷ x ∷ o ∷ rest) + 2) (leb n (length rest))
+    (λ _. omega (arith, thirds f (drop n rest), length-drop n rest))
+    (λ _. omega arith)
+
+-- a width, and the bytes after it
+pub width_first : (bs : List ℕ) → 1 ≤ length bs → bs ≡ get_or bs 0 0 ∷ take (length bs - 1) (drop 1 bs)
+width_first [] h = absurd (omega (arith, h))
+width_first (b ∷ bs) h =
+    let n : suc (length bs) - 1 ≡ length bs = omega arith in
+    rw n (ap (λ (l : List ℕ). b ∷ l) (sym (take_all (length bs) bs (omega arith))))
+
+-- The lines of a cell are few.
+pub cell_few : (bs : List ℕ) → length bs < 65536 → 1 ≤ length bs → length (raws (take (length bs - 1) (drop 1 bs))) ≤ 21845
+unfolding raws
+cell_few bs h k =
+    let body = take (length bs - 1) (drop 1 bs) in
+    omega (arith, thirds (length body) body, ap length (width_first bs k), h)
+
+pub none_there : (bs : List ℕ) → length bs < 1 → bs ≡ []
+none_there [] h = refl
+none_there (b ∷ bs) h = absurd (omega (arith, h))
+
+module _ (out : List ℕ) (p : Added) (s : RenderOptions) (names : List ℕ) (drawn : Bool) (letter : ℕ) where
+  -- A cell behind a border: the border leaves the names.
+  pub stacks : (o₁ out' : List ℕ) (q : Lines) (r : Added) (w : ℕ) (bytes body : List ℕ) → bytes ≡ w ∷ body → AddsRuleIf out p.lines s HorizVert drawn o₁ q
+      → AddsCell o₁ (added q p.from) s names body out' r → StacksCell out p s names drawn (whole letter bytes) out' r
+  unfolding readable_lines
+  stacks o₁ out' q r w bytes body width rule one ns c reads read ok apart =
+      let its : read_all read_line (raws body) ≡ some c.lines = cell_lines_lem letter w body c (sym (ap (λ (bs : List ℕ). read_plain_cell (whole letter bs)) width) ∙ read) in
+      let edge = rule_if s HorizVert drawn in
+      let a₁ = adds_edge out p s names ns o₁ q HorizVert drawn reads rule in
+      let a₂ = one (names_left ns edge) c.lines a₁.waiting its ok apart in
+      adds_then out p s names ns o₁ out' (added q p.from) r edge (behind_prefixes s true c.lines ([] ∷ [])) a₁ a₂
+
+  -- A field that is no cell.
+  pub stacks_none : (out' : List ℕ) (r : Added) (bytes : List ℕ) → bytes ≡ [] → StacksCell out p s names drawn (whole letter bytes) out' r
+  stacks_none out' r bytes empty ns c reads read ok apart =
+      absurd (no_width_lem letter c (sym (ap (λ (bs : List ℕ). read_plain_cell (whole letter bs)) empty) ∙ read))
+
+module _ (first : Bool) (out : List ℕ) (p : Added) (s : RenderOptions) (names : List ℕ) (fields : List Raw) where
   -- No cell is left.
-  from_none : raws cells ≡ [] → AddsFrom first out p s names cells out p
+  from_none : fields ≡ [] → AddsFrom first out p s names fields out p
   from_none is ns cs reads read ok apart =
       let none_left = read_none read_plain_cell cs (sym (ap (read_all read_plain_cell) is) ∙ read) in
       rw (none_left, cells_none s first) (adds_none out p s names ns reads)
 
   -- A rest that is no field.
-  from_broken : raws cells ≡ broken ∷ [] → AddsFrom first out p s names cells out p
-  from_broken is ns cs reads read ok apart = absurd (no_cells_read cs (sym (ap (read_all read_plain_cell) is) ∙ read))
+  from_broken : (out' : List ℕ) (r : Added) (rest : List Raw) → fields ≡ broken ∷ rest → AddsFrom first out p s names fields out' r
+  from_broken out' r rest is ns cs reads read ok apart = absurd (no_cells_read rest cs (sym (ap (read_all read_plain_cell) is) ∙ read))
 
-  -- A field that is no cell.
-  from_empty : (out' : List ℕ) (r : Added) (letter : ℕ) (bytes left : List ℕ) → raws cells ≡ whole letter bytes ∷ raws left → bytes ≡ []
-      → AddsFrom first out p s names cells out' r
-  from_empty out' r letter bytes left is empty ns cs reads read ok apart =
-      let x = read_first read_plain_cell (whole letter bytes) (raws left) cs (sym (ap (read_all read_plain_cell) is) ∙ read) in
-      absurd (no_width_lem letter x.one (sym (ap (λ (bs : List ℕ). read_plain_cell (whole letter bs)) empty) ∙ x.first))
-
-  -- One cell, and those after it: the border before it leaves the names.
-  from_on : (o₁ o₂ out' : List ℕ) (q : Lines) (m r : Added) (drawn : Bool) (letter w : ℕ) (bytes body left : List ℕ) → drawn ≡ draws_between s first
-      → raws cells ≡ whole letter bytes ∷ raws left → bytes ≡ w ∷ body → AddsRuleIf out p.lines s HorizVert drawn o₁ q
-      → AddsCell o₁ (added q p.from) s names body o₂ m → AddsFrom false o₂ m s names left out' r → AddsFrom first out p s names cells out' r
-  unfolding all readable_lines
-  from_on o₁ o₂ out' q m r drawn letter w bytes body left sep is width rule one others ns cs reads read ok apart =
-      let x = read_first read_plain_cell (whole letter bytes) (raws left) cs (sym (ap (read_all read_plain_cell) is) ∙ read) in
+  -- One cell, and those after it.
+  from_on : (mid out' : List ℕ) (m r : Added) (drawn : Bool) (field : Raw) (rest : List Raw) → drawn ≡ draws_between s first → fields ≡ field ∷ rest
+      → StacksCell out p s names drawn field mid m → AddsFrom false mid m s names rest out' r → AddsFrom first out p s names fields out' r
+  unfolding all
+  from_on mid out' m r drawn field rest sep is one others ns cs reads read ok apart =
+      let x = read_first read_plain_cell field rest cs (sym (ap (read_all read_plain_cell) is) ∙ read) in
       let good : all readable_cell (x.one ∷ x.more) ≡ true = sym (ap (all readable_cell) x.are) ∙ ok in
       let lines = x.one.lines in
-      let its : read_all read_line (raws body) ≡ some lines = cell_lines_lem letter w body x.one (sym (ap (λ (bs : List ℕ). read_plain_cell (whole letter bs)) width) ∙ x.first) in
       let edge : rule_if s HorizVert drawn ≡ between s first = ap (rule_if s HorizVert) sep ∙ sym (between_is s first) in
       let fit : (any_overlapping lines || cells_misfit x.more) ≡ false = sym (cells_misfit_on x.one x.more) ∙ sym (ap cells_misfit x.are) ∙ apart in
       let new = behind_prefixes s true lines ([] ∷ []) in
-      let ms = names_left ns (between s first) in
-      let a₁ : Adds out p s names ns (between s first) o₁ (added q p.from) = rw edge at (adds_edge out p s names ns o₁ q HorizVert drawn reads rule) in
-      let a₂ = one ms lines a₁.waiting its (and_left (readable_cell x.one) (all readable_cell x.more) good) (or_left (any_overlapping lines) (cells_misfit x.more) fit) in
-      let a₃ =
-      others (names_left ms new) x.more a₂.waiting x.later (and_right (readable_cell x.one) (all readable_cell x.more) good)
+      let a₁ : Adds out p s names ns (between s first ++ new) mid m =
+      rw edge at (one ns x.one reads x.first (and_left (readable_cell x.one) (all readable_cell x.more) good) (or_left (any_overlapping lines) (cells_misfit x.more) fit)) in
+      let a₂ =
+      others (names_left ns (between s first ++ new)) x.more a₁.waiting x.later (and_right (readable_cell x.one) (all readable_cell x.more) good)
       (or_right (any_overlapping lines) (cells_misfit x.more) fit) in
-      rw (x.are, cells_on s first x.one x.more)
-      (adds_then out p s names ns o₁ out' (added q p.from) r (between s first) (new ++ cell_lines s false x.more) a₁
-      (adds_then o₁ (added q p.from) s names ms o₂ out' m r new (cell_lines s false x.more) a₂ a₃))
+      rw (x.are, cells_on s first x.one x.more, ← append_assoc (between s first) new (cell_lines s false x.more))
+      (adds_then out p s names ns mid out' m r (between s first ++ new) (cell_lines s false x.more) a₁ a₂)
 
--- Up to a place the cells are added, and those from it on are left; the names that still wait begin at a place too.
-pub record Stack (out₀ : List ℕ) (p : Lines) (s : RenderOptions) (names cells out : List ℕ) (q : Lines) (from : ℕ) (drawn : Bool) (at : ℕ) : Type 0 where
+-- Some cells are added, and the others are left; the names that still wait begin at a place too.
+pub record Stack (out₀ : List ℕ) (p : Lines) (s : RenderOptions) (names cells out : List ℕ) (q : Added) (drawn : Bool) (left : List Raw) : Type 0 where
   pub size : length out ≡ length out₀
-  pub waiting : from ≤ length names
-  pub inside : at ≤ length cells
-  pub bounds : InBounds q
-  pub few : q.count + 21846 * length (raws (drop at cells)) ≤ 415071
+  pub waiting : q.from ≤ length names
+  pub bounds : InBounds q.lines
+  pub few : q.lines.count + 21846 * length left ≤ 415071
   pub first : Bool
   pub sep : drawn ≡ draws_between s first
-  pub lines : (out' : List ℕ) (r : Added) → AddsFrom first out (added q from) s names (drop at cells) out' r → AddsCells out₀ p s names cells out' r
+  pub lines : (out' : List ℕ) (r : Added) → AddsFrom first out q s names left out' r → AddsCells out₀ p s names cells out' r
 
-pub stack_start : (out : List ℕ) (p : Lines) (s : RenderOptions) (names cells : List ℕ) → InBounds p → p.count ≤ 65535 → length (raws cells) ≤ 16
-    → Stack out p s names cells out p 0 false 0
-stack_start out p s names cells h k n =
-    record {
+pub stack_start : (out : List ℕ) (p : Lines) (s : RenderOptions) (names cells : List ℕ) (left : List Raw) → InBounds p → p.count ≤ 65535 → length (raws cells) ≤ 16
+    → left ≡ raws cells → Stack out p s names cells out (added p 0) false left
+stack_start out p s names cells left h k n e =
+    rw e (record {
       size = refl;
       waiting = omega arith;
-      inside = omega arith;
       bounds = h;
       few = omega (arith, k, n);
       first = true;
       sep = refl;
       lines = λ out' r others. others;
-    }
+    })
 
--- the width, and the bytes after it
-pub width_first : (s : List ℕ) (at letter start next : ℕ) → FieldIs s at letter start next → start < next
-    → take (next - start) (drop start s) ≡ get_or s start 0 ∷ take (next - (start + 1)) (drop (start + 1) s)
-width_first s at letter start next f h =
-    let one : start + 1 ≡ suc start = omega arith in
-    let n : next - start ≡ suc (next - suc start) = omega arith in
-    rw (one, n, drop-cons s start 0 (omega (arith, f.inside)))
-
-module _ (out₀ : List ℕ) (p : Lines) (s : RenderOptions) (names cells out : List ℕ) (q : Lines) (from : ℕ) (drawn : Bool) (at : ℕ)
-    (w : Stack out₀ p s names cells out q from drawn at) (letter start next : ℕ) (f : FieldIs cells at letter start next) (q₁ : Lines) (k₁ : q₁.count ≤ q.count + 1) where
-  fewer : length (raws (drop at cells)) ≡ suc (length (raws (drop next cells)))
-  fewer = ap length f.fields
-
-  -- there is room for the cell's lines
-  pub stack_cell : start < next → next < start + 65536 → 3 * q₁.count + length (take (next - (start + 1)) (drop (start + 1) cells)) < 3000000
-  stack_cell h short =
-      omega (arith, w.few, fewer, k₁, short, length-take-le (next - (start + 1)) (drop (start + 1) cells) (omega (arith, length-drop (start + 1) cells, f.inside, h)))
-
+module _ (out₀ : List ℕ) (p : Lines) (s : RenderOptions) (names cells out : List ℕ) (q : Added) (drawn : Bool) (left : List Raw)
+    (w : Stack out₀ p s names cells out q drawn left) where
   -- one cell on
-  pub stack_on : (o₁ o₂ : List ℕ) (r : Added) → start < next → next < start + 65536 → length o₁ ≡ length out → AddsRuleIf out q s HorizVert drawn o₁ q₁
-      → InBounds r.lines → r.from ≤ length names → 3 * r.lines.count ≤ 3 * q₁.count + length (take (next - (start + 1)) (drop (start + 1) cells))
-      → length o₂ ≡ length o₁ → AddsCell o₁ (added q₁ from) s names (take (next - (start + 1)) (drop (start + 1) cells)) o₂ r
-      → Stack out₀ p s names cells o₂ r.lines r.from s.borders next
-  stack_on o₁ o₂ r h short same₁ rule b wait k same one =
-      let n = length-take-le (next - (start + 1)) (drop (start + 1) cells) (omega (arith, length-drop (start + 1) cells, f.inside, h)) in
+  pub stack_on : (field : Raw) (others : List Raw) (out' : List ℕ) (r : Added) → left ≡ field ∷ others → length out' ≡ length out → InBounds r.lines
+      → r.from ≤ length names → r.lines.count ≤ q.lines.count + 21846 → StacksCell out q s names drawn field out' r
+      → Stack out₀ p s names cells out' r s.borders others
+  stack_on field others out' r is same b wait k one =
+      let n : length left ≡ suc (length others) = ap length is in
       record {
-        size = same ∙ same₁ ∙ w.size;
+        size = same ∙ w.size;
         waiting = wait;
-        inside = f.inside;
         bounds = b;
-        few = omega (arith, w.few, fewer, k₁, k, n, short);
+        few = omega (arith, w.few, n, k);
         first = false;
         sep = refl;
-        lines = λ out'' z others.
-            w.lines out'' z
-            (from_on w.first out (added q from) s names (drop at cells) o₁ o₂ out'' q₁ r z drawn letter (get_or cells start 0) _ _ (drop next cells) w.sep f.fields
-            (width_first cells at letter start next f h) rule one others);
+        lines = λ out'' z more. w.lines out'' z (from_on w.first out q s names left out' out'' r z drawn field others w.sep is one more);
       }
 
-  -- a field that is no cell: such cells were not read
-  pub stack_empty : (o₁ : List ℕ) → next ≤ start → length o₁ ≡ length out → InBounds q₁ → Stack out₀ p s names cells o₁ q₁ from s.borders next
-  stack_empty o₁ h same₁ b₁ =
-      let none_there : take (next - start) (drop start cells) ≡ [] = let z : next - start ≡ 0 = omega arith in rw z in
+  -- a rest that is no field is passed over
+  pub stack_broken : (others : List Raw) → left ≡ broken ∷ others → Stack out₀ p s names cells out q drawn others
+  stack_broken others is =
+      let n : length left ≡ suc (length others) = ap length is in
       record {
-        size = same₁ ∙ w.size;
+        size = w.size;
         waiting = w.waiting;
-        inside = f.inside;
-        bounds = b₁;
-        few = omega (arith, w.few, fewer, k₁);
-        first = false;
-        sep = refl;
-        lines = λ out'' z others. w.lines out'' z (from_empty w.first out (added q from) s names (drop at cells) out'' z letter _ (drop next cells) f.fields none_there);
+        bounds = w.bounds;
+        few = omega (arith, w.few, n);
+        first = w.first;
+        sep = w.sep;
+        lines = λ out' r more. w.lines out' r (from_broken w.first out q s names left out' r others is);
       }
 
-module _ (out₀ : List ℕ) (p : Lines) (s : RenderOptions) (names cells out : List ℕ) (q : Lines) (from : ℕ) (drawn : Bool) (at : ℕ)
-    (w : Stack out₀ p s names cells out q from drawn at) where
   -- its lines are few
-  pub stack_few : q.count < 1000000
+  pub stack_few : q.lines.count < 900000
   stack_few = omega (arith, w.few)
 
-  -- the ends
-  pub stack_end : raws (drop at cells) ≡ [] → AddsCells out₀ p s names cells out (added q from)
-  stack_end is = w.lines out (added q from) (from_none w.first out (added q from) s names (drop at cells) is)
-
-  pub stack_broken : raws (drop at cells) ≡ broken ∷ [] → AddsCells out₀ p s names cells out (added q from)
-  stack_broken is = w.lines out (added q from) (from_broken w.first out (added q from) s names (drop at cells) is)
+  -- the end
+  pub stack_end : left ≡ [] → AddsCells out₀ p s names cells out q
+  stack_end is = w.lines out q (from_none w.first out q s names left is)

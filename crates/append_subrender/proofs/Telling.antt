@@ -4,16 +4,16 @@ use mathlib.Core.Path.{◌≡◌, refl, sym, ap, ◌∙◌}
 use mathlib.Core.Bool.{Bool, true, false, ◌||◌}
 use mathlib.Core.Option.{Option, none, some, map}
 use mathlib.Core.List.{List, [], ◌∷◌}
-use Prim.Native.Nat.{ℕ, zero, suc, ◌+◌, ◌-◌, ◌*◌, ◌≤◌, ◌<◌}
+use Prim.Native.Nat.{ℕ, zero, suc, ◌+◌, ◌-◌, ◌≤◌, ◌<◌}
 use native.Mathlib.Omega.{arith}
-use lib.Dec.{leb, eqb}
-use lib.ListN.{length, take, drop, get_or, length-drop}
+use lib.Dec.{eqb}
+use lib.ListN.{length, take, drop, length-drop}
 use lib.Seq.{take-nil, length-take-le}
 use borrow.Author.Tests.{ne_eqb}
 use Rattle.characters.proofs.Tests.{by_if}
-use Rattle.fields.specs.Field.{Raw, whole, broken, raws_f, raws, read_all, all}
+use Rattle.fields.specs.Field.{Raw, whole, broken, raws, read_all, all}
 use Rattle.fields.specs.Sheet.{Piece, read_piece, is_segment, read_prefix}
-use Rattle.fields.proofs.Fields.{FieldIs}
+use Rattle.fields.proofs.Fields.{raws_few}
 use Rattle.fields.proofs.Readings.{read_first, read_none, read_size}
 use Rattle.rows.proofs.Reading.{OnSome, some_of}
 use Rattle.fields.specs.Spans.{RenderLine, text, border, Cell, read_border, read_line, read_plain_cell}
@@ -21,10 +21,10 @@ use Rattle.rows.specs.Columns.{overlaps}
 use Rattle.places.specs.Border.{PartsIn, FindsParts}
 use Rattle.places.specs.declared.border.Parts.{Parts}
 use Rattle.holes.specs.Overlap.{FindsOverlap}
-use Rattle.append_subrender.specs.Misfit.{overlapping, any_overlapping, cells_misfit, TellsLine, TellsLines, TellsGuest, TellsCells}
+use Rattle.append_subrender.specs.Misfit.{overlapping, any_overlapping, cells_misfit, TellsLine, TellsFields, TellsLines, TellsGuest, TellsCell, TellsCellFields, TellsCells}
 use Rattle.append_subrender.proofs.Pairing.{guest_none, guest_all, guest_first, cell_whole, cells_misfit_on, cells_misfit_none}
 use Rattle.append_subrender.proofs.Adding.{not_text, no_lines_read}
-use Rattle.append_subrender.proofs.Stacking.{cell_lines_lem, no_width_lem, no_cells_read, width_first}
+use Rattle.append_subrender.proofs.Stacking.{cell_lines_lem, no_width_lem, no_cells_read}
 
 -- ---- one line
 
@@ -34,7 +34,7 @@ plain_apart [] = tt
 plain_apart (a ∷ segs) = by_if (OnSome (λ l. overlapping l ≡ false)) (all is_segment segs) (λ _. refl) (λ _. tt)
 
 -- A line without holes.
-pub tells_plain : (letter : ℕ) (bytes : List ℕ) → (letter ≡ 0x47 → ⊥) → TellsLine letter bytes false
+pub tells_plain : (letter : ℕ) (bytes : List ℕ) → (letter ≡ 0x47 → ⊥) → TellsLine (whole letter bytes) false
 unfolding read_line
 tells_plain letter bytes other g read =
     let P = OnSome (λ l. overlapping l ≡ false) in
@@ -48,7 +48,7 @@ tells_plain letter bytes other g read =
 
 -- A border with holes.
 pub tells_holed : (letter : ℕ) (bytes : List ℕ) (parts : Parts) (r : Bool) → PartsIn bytes parts → FindsParts letter bytes parts
-    → FindsOverlap bytes parts.holes (parts.holes - parts.segs) r → (letter ≡ 0x4C → ⊥) → TellsLine letter bytes r
+    → FindsOverlap bytes parts.holes (parts.holes - parts.segs) r → (letter ≡ 0x4C → ⊥) → TellsLine (whole letter bytes) r
 tells_holed letter bytes parts r within finds told other (text ps) read = absurd (not_text letter bytes ps other read)
 tells_holed letter bytes parts r within finds told other (border a segs hs) read =
     let b = finds a segs hs read in
@@ -59,77 +59,67 @@ tells_holed letter bytes parts r within finds told other (border a segs hs) read
 -- ---- lines
 
 -- No line is looked at.
-pub lines_zero : (body : List ℕ) (most : ℕ) → most ≡ 0 → TellsLines body most false
+lines_zero : (fields : List Raw) → TellsFields fields 0 false
 unfolding any_overlapping
-lines_zero body most z gs read = sym (ap (λ (n : ℕ). any_overlapping (take n gs)) z)
+lines_zero fields gs read = refl
 
 -- No line is left.
-pub lines_none : (body : List ℕ) (most : ℕ) → raws body ≡ [] → TellsLines body most false
+lines_none : (most : ℕ) → TellsFields [] most false
 unfolding any_overlapping
-lines_none body most is gs read =
-    let none_left = read_none read_line gs (sym (ap (read_all read_line) is) ∙ read) in
-    sym (ap any_overlapping (ap (take most) none_left ∙ take-nil most))
+lines_none most gs read = sym (ap any_overlapping (ap (take most) (read_none read_line gs read) ∙ take-nil most))
 
 -- A rest that is no field.
-pub lines_broken : (body : List ℕ) (most : ℕ) (r : Bool) → raws body ≡ broken ∷ [] → TellsLines body most r
-lines_broken body most r is gs read = absurd (no_lines_read gs (sym (ap (read_all read_line) is) ∙ read))
+lines_broken : (rest : List Raw) (most : ℕ) (r : Bool) → TellsFields (broken ∷ rest) most r
+lines_broken rest most r gs read = absurd (no_lines_read rest gs read)
 
-first_told : (most : ℕ) (g : RenderLine) (gs : List RenderLine) → 0 < most → any_overlapping (take most (g ∷ gs)) ≡ (overlapping g || any_overlapping (take (most - 1) gs))
+first_told : (most : ℕ) (g : RenderLine) (gs : List RenderLine) → any_overlapping (take (suc most) (g ∷ gs)) ≡ (overlapping g || any_overlapping (take most gs))
 unfolding any_overlapping
-first_told zero g gs h = absurd (omega arith)
-first_told (suc n) g gs h = let e : suc n - 1 ≡ n = omega arith in rw e
+first_told most g gs = refl
 
 -- The first line overlaps.
-pub lines_found : (body : List ℕ) (most letter : ℕ) (bytes left : List ℕ) → 0 < most → raws body ≡ whole letter bytes ∷ raws left → (t : Bool) → t ≡ true
-    → TellsLine letter bytes t → TellsLines body most true
-lines_found body most letter bytes left h is t so one gs read =
-    let x = read_first read_line (whole letter bytes) (raws left) gs (sym (ap (read_all read_line) is) ∙ read) in
+lines_found : (most : ℕ) (field : Raw) (rest : List Raw) (t : Bool) → t ≡ true → TellsLine field t → TellsFields (field ∷ rest) (suc most) true
+lines_found most field rest t so one gs read =
+    let x = read_first read_line field rest gs read in
     let o : overlapping x.one ≡ true = sym (one x.one x.first) ∙ so in
-    sym (ap (λ (l : List RenderLine). any_overlapping (take most l)) x.are ∙ first_told most x.one x.more h ∙ rw o)
+    sym (ap (λ (l : List RenderLine). any_overlapping (take (suc most) l)) x.are ∙ first_told most x.one x.more ∙ rw o)
 
 -- It does not: those after it tell.
-pub lines_on : (body : List ℕ) (most letter : ℕ) (bytes left : List ℕ) → 0 < most → raws body ≡ whole letter bytes ∷ raws left → (t : Bool) → t ≡ false
-    → TellsLine letter bytes t → (r : Bool) → TellsLines left (most - 1) r → TellsLines body most r
-lines_on body most letter bytes left h is t clear one r others gs read =
-    let x = read_first read_line (whole letter bytes) (raws left) gs (sym (ap (read_all read_line) is) ∙ read) in
+lines_on : (most : ℕ) (field : Raw) (rest : List Raw) (t : Bool) → t ≡ false → TellsLine field t → (r : Bool) → TellsFields rest most r
+    → TellsFields (field ∷ rest) (suc most) r
+lines_on most field rest t clear one r others gs read =
+    let x = read_first read_line field rest gs read in
     let o : overlapping x.one ≡ false = sym (one x.one x.first) ∙ clear in
     others x.more x.later
-    ∙ sym (ap (λ (l : List RenderLine). any_overlapping (take most l)) x.are ∙ first_told most x.one x.more h ∙ rw o)
+    ∙ sym (ap (λ (l : List RenderLine). any_overlapping (take (suc most) l)) x.are ∙ first_told most x.one x.more ∙ rw o)
 
--- The lines before a place do not overlap, and those from it on tell.
-pub record Looked (body : List ℕ) (most left at : ℕ) : Type 0 where
-  pub inside : at ≤ length body
-  pub rest : (r : Bool) → TellsLines (drop at body) left r → TellsLines body most r
+-- The lines so far do not overlap, and the first of those that are left, n at most, tell.
+pub record Looked (body : List ℕ) (most n : ℕ) (left : List Raw) : Type 0 where
+  pub rest : (r : Bool) → TellsFields left n r → TellsLines body most r
 
-pub looked_start : (body : List ℕ) (most : ℕ) → Looked body most most 0
-looked_start body most = record { inside = omega arith; rest = λ r t. t }
+pub looked_start : (body : List ℕ) (most n : ℕ) (left : List Raw) → n ≡ most → left ≡ raws body → Looked body most n left
+looked_start body most n left k e = rw (k, e) (record { rest = λ r t. t })
 
-pub looked_on : (body : List ℕ) (most left at letter start next : ℕ) → Looked body most left at → 0 < left → FieldIs body at letter start next → (t : Bool) → t ≡ false
-    → TellsLine letter (take (next - start) (drop start body)) t → Looked body most (left - 1) next
-looked_on body most left at letter start next w h f t clear one =
-    record {
-      inside = f.inside;
-      rest = λ r others. w.rest r (lines_on (drop at body) left letter (take (next - start) (drop start body)) (drop next body) h f.fields t clear one r others);
-    }
+module _ (body : List ℕ) (most n : ℕ) (left : List Raw) (w : Looked body most n left) where
+  pub looked_on : (field : Raw) (others : List Raw) (m : ℕ) (t : Bool) → left ≡ field ∷ others → m + 1 ≡ n → t ≡ false → TellsLine field t → Looked body most m others
+  looked_on field others m t is k clear one =
+      let size : n ≡ suc m = omega (arith, k) in
+      record { rest = λ r told. w.rest r (rw (size, is) (lines_on m field others t clear one r told)) }
+
+  pub looked_broken : (others : List Raw) (m : ℕ) → left ≡ broken ∷ others → Looked body most m others
+  looked_broken others m is = record { rest = λ r told. w.rest r (rw is (lines_broken others n r)) }
+
+  pub looked_found : (field : Raw) (others : List Raw) (m : ℕ) (t : Bool) → left ≡ field ∷ others → m + 1 ≡ n → t ≡ true → TellsLine field t → TellsLines body most true
+  looked_found field others m t is k so one =
+      let size : n ≡ suc m = omega (arith, k) in
+      w.rest true (rw (size, is) (lines_found m field others t so one))
+
+pub looked_end : (body : List ℕ) (most n : ℕ) (left : List Raw) → Looked body most n left → (0 < n → left ≡ []) → TellsLines body most false
+looked_end body most zero left w gone = w.rest false (lines_zero left)
+looked_end body most (suc n) left w gone =
+    let is : left ≡ [] = gone (omega arith) in
+    w.rest false (rw is (lines_none (suc n)))
 
 -- ---- a guest
-
--- a list of bytes has no more fields than bytes
-few_fuel : (f : ℕ) (bs : List ℕ) → length (raws_f f bs) ≤ length bs
-unfolding raws_f
-few_fuel zero bs = omega arith
-few_fuel (suc f) [] = omega arith
-few_fuel (suc f) (l ∷ []) = omega arith
-few_fuel (suc f) (l ∷ x ∷ []) = omega arith
-few_fuel (suc f) (l ∷ x ∷ o ∷ rest) =
-    let n = x * 256 + o in
-    by_if (λ (rs : List Raw). length rs ≤ length (l ∷ x ∷ o ∷ rest)) (leb n (length rest))
-    (λ _. omega (arith, few_fuel f (drop n rest), length-drop n rest))
-    (λ _. omega arith)
-
-raws_few : (bs : List ℕ) → length (raws bs) ≤ length bs
-unfolding raws
-raws_few bs = few_fuel (length bs) bs
 
 lines_few : (bs : List ℕ) (gs : List RenderLine) → read_all read_line (raws bs) ≡ some gs → length gs ≤ length bs
 lines_few bs gs e = omega (arith, read_size read_line (raws bs) gs e, raws_few bs)
@@ -151,58 +141,53 @@ guest_counts guest prefixes rep n r k clear told gs ps read reads =
 
 -- ---- cells
 
-pub cells_none_left : (cells : List ℕ) → raws cells ≡ [] → TellsCells cells false
-cells_none_left cells is cs read =
-    let none_left = read_none read_plain_cell cs (sym (ap (read_all read_plain_cell) is) ∙ read) in
-    sym (ap cells_misfit none_left ∙ cells_misfit_none)
+-- a cell's lines tell
+pub cell_told : (letter w : ℕ) (bytes body : List ℕ) (t : Bool) → bytes ≡ w ∷ body → TellsLines body (length body) t → TellsCell (whole letter bytes) t
+cell_told letter w bytes body t is told c read =
+    let reads = cell_lines_lem letter w body c (rw is at read) in
+    told c.lines reads ∙ cell_whole c.lines (length body) (lines_few body c.lines reads)
 
-pub cells_broken : (cells : List ℕ) (r : Bool) → raws cells ≡ broken ∷ [] → TellsCells cells r
-cells_broken cells r is cs read = absurd (no_cells_read cs (sym (ap (read_all read_plain_cell) is) ∙ read))
+-- what has no width is no cell
+pub cell_empty : (letter : ℕ) (bytes : List ℕ) (t : Bool) → bytes ≡ [] → TellsCell (whole letter bytes) t
+cell_empty letter bytes t is c read = absurd (no_width_lem letter c (rw is at read))
 
--- the first cell's lines tell
-first_cell : (cells : List ℕ) (letter w : ℕ) (bytes body left : List ℕ) (n : ℕ) (t : Bool) → raws cells ≡ whole letter bytes ∷ raws left → bytes ≡ w ∷ body
-    → length body ≤ n → TellsLines body n t → (cs : List Cell) → read_all read_plain_cell (raws cells) ≡ some cs
-    → (more : List Cell) × (read_all read_plain_cell (raws left) ≡ some more) × (cells_misfit cs ≡ (t || cells_misfit more))
-first_cell cells letter w bytes body left n t is width few told cs read =
-    let x = read_first read_plain_cell (whole letter bytes) (raws left) cs (sym (ap (read_all read_plain_cell) is) ∙ read) in
-    let lines = x.one.lines in
-    let reads : read_all read_line (raws body) ≡ some lines = cell_lines_lem letter w body x.one (sym (ap (λ (bs : List ℕ). read_plain_cell (whole letter bs)) width) ∙ x.first) in
-    let one : any_overlapping lines ≡ t = sym (told lines reads ∙ cell_whole lines n (omega (arith, lines_few body lines reads, few))) in
-    (x.more, x.later, ap cells_misfit x.are ∙ cells_misfit_on x.one x.more ∙ ap (λ (b : Bool). b || cells_misfit x.more) one)
+cells_none_left : TellsCellFields [] false
+cells_none_left cs read = sym (ap cells_misfit (read_none read_plain_cell cs read) ∙ cells_misfit_none)
 
--- The cells before a place do not overlap, and those from it on tell.
-pub record LookedCells (cells : List ℕ) (at : ℕ) : Type 0 where
-  pub inside : at ≤ length cells
-  pub rest : (r : Bool) → TellsCells (drop at cells) r → TellsCells cells r
+cells_broken : (rest : List Raw) (r : Bool) → TellsCellFields (broken ∷ rest) r
+cells_broken rest r cs read = absurd (no_cells_read rest cs read)
 
-pub cells_start : (cells : List ℕ) → LookedCells cells 0
-cells_start cells = record { inside = omega arith; rest = λ r t. t }
+-- the first cell tells
+first_cell : (field : Raw) (rest : List Raw) (t : Bool) → TellsCell field t → (cs : List Cell) → read_all read_plain_cell (field ∷ rest) ≡ some cs
+    → (more : List Cell) × (read_all read_plain_cell rest ≡ some more) × (cells_misfit cs ≡ (t || cells_misfit more))
+first_cell field rest t told cs read =
+    let x = read_first read_plain_cell field rest cs read in
+    (x.more, x.later, ap cells_misfit x.are ∙ cells_misfit_on x.one x.more ∙ ap (λ (b : Bool). b || cells_misfit x.more) (sym (told x.one x.first)))
 
-module _ (cells : List ℕ) (at letter start next : ℕ) (w : LookedCells cells at) (f : FieldIs cells at letter start next) where
-  cell_few : start < next → length (take (next - (start + 1)) (drop (start + 1) cells)) ≤ next - start
-  cell_few h = omega (arith, length-take-le (next - (start + 1)) (drop (start + 1) cells) (omega (arith, length-drop (start + 1) cells, f.inside, h)))
+-- The cells so far do not overlap, and those that are left tell.
+pub record LookedCells (cells : List ℕ) (left : List Raw) : Type 0 where
+  pub rest : (r : Bool) → TellsCellFields left r → TellsCells cells r
 
-  pub cells_found : (t : Bool) → start < next → t ≡ true → TellsLines (take (next - (start + 1)) (drop (start + 1) cells)) (next - start) t → TellsCells cells true
-  cells_found t h so told =
-      w.rest true (λ cs read.
-      let (more, later, is) = first_cell (drop at cells) letter (get_or cells start 0) _ _ (drop next cells) (next - start) t f.fields (width_first cells at letter start next f h) (cell_few h) told cs read in
-      sym (is ∙ ap (λ (b : Bool). b || cells_misfit more) so))
+pub cells_start : (cells : List ℕ) (left : List Raw) → left ≡ raws cells → LookedCells cells left
+cells_start cells left e = rw e (record { rest = λ r t. t })
 
-  pub cells_on : (t : Bool) → start < next → t ≡ false → TellsLines (take (next - (start + 1)) (drop (start + 1) cells)) (next - start) t → LookedCells cells next
-  cells_on t h clear told =
+module _ (cells : List ℕ) (left : List Raw) (w : LookedCells cells left) where
+  pub cells_found : (field : Raw) (others : List Raw) (t : Bool) → left ≡ field ∷ others → t ≡ true → TellsCell field t → TellsCells cells true
+  cells_found field others t is so told =
+      w.rest true (rw is (λ cs read.
+      let (more, later, first) = first_cell field others t told cs read in
+      sym (first ∙ ap (λ (b : Bool). b || cells_misfit more) so)))
+
+  pub cells_on : (field : Raw) (others : List Raw) (t : Bool) → left ≡ field ∷ others → t ≡ false → TellsCell field t → LookedCells cells others
+  cells_on field others t is clear told =
       record {
-        inside = f.inside;
-        rest = λ r others. w.rest r (λ cs read.
-            let (more, later, is) = first_cell (drop at cells) letter (get_or cells start 0) _ _ (drop next cells) (next - start) t f.fields (width_first cells at letter start next f h) (cell_few h) told cs read in
-            others more later ∙ sym (is ∙ ap (λ (b : Bool). b || cells_misfit more) clear));
+        rest = λ r all_others. w.rest r (rw is (λ cs read.
+            let (more, later, first) = first_cell field others t told cs read in
+            all_others more later ∙ sym (first ∙ ap (λ (b : Bool). b || cells_misfit more) clear)));
       }
 
-  pub cells_empty : next ≤ start → LookedCells cells next
-  cells_empty h =
-      let none_there : take (next - start) (drop start cells) ≡ [] = let z : next - start ≡ 0 = omega arith in rw z in
-      record {
-        inside = f.inside;
-        rest = λ r others. w.rest r (λ cs read.
-            let x = read_first read_plain_cell (whole letter (take (next - start) (drop start cells))) (raws (drop next cells)) cs (sym (ap (read_all read_plain_cell) f.fields) ∙ read) in
-            absurd (no_width_lem letter x.one (sym (ap (λ (bs : List ℕ). read_plain_cell (whole letter bs)) none_there) ∙ x.first)));
-      }
+  pub cells_skip : (others : List Raw) → left ≡ broken ∷ others → LookedCells cells others
+  cells_skip others is = record { rest = λ r told. w.rest r (rw is (cells_broken others r)) }
+
+  pub cells_end : left ≡ [] → TellsCells cells false
+  cells_end is = w.rest false (rw is cells_none_left)

@@ -1,2 +1,3 @@
+pub mod Inputs
 pub mod Misfit
 pub mod Prefixes

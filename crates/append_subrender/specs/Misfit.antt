@@ -3,7 +3,7 @@
 -- Assumes nothing: these are definitions.
 use Rattle.std.specs.Prelude.{◌≡◌, Bool, true, false, ◌||◌, List, [], ◌∷◌, ◌++◌, ℕ, take}
 use Rattle.std.proofs.Math.Option.{some}
-use Rattle.fields.specs.Field.{whole, raws, read_all}
+use Rattle.fields.specs.Field.{Raw, raws, read_all}
 use Rattle.fields.specs.Sheet.{read_prefix}
 use Rattle.fields.specs.TaggedLine.{push_str}
 use Rattle.rows.specs.SubRenderer.{in_front, later, between}
@@ -55,12 +55,16 @@ cell_lines s first (c ∷ cs) = between s first ++ (behind_prefixes s true c.lin
 -- ---- what the functions tell, of inputs that passed refusals 1 to 3
 
 -- of one line
-abbrev pub TellsLine : ℕ → List ℕ → Bool → Type 0
-TellsLine letter content r = (g : RenderLine) → read_line (whole letter content) ≡ some g → r ≡ overlapping g
+abbrev pub TellsLine : Raw → Bool → Type 0
+TellsLine field r = (g : RenderLine) → read_line field ≡ some g → r ≡ overlapping g
+
+-- of the first lines, so many at most, whose fields stand in a list
+abbrev pub TellsFields : List Raw → ℕ → Bool → Type 0
+TellsFields fields most r = (gs : List RenderLine) → read_all read_line fields ≡ some gs → r ≡ any_overlapping (take most gs)
 
 -- of the first lines, so many at most
 abbrev pub TellsLines : List ℕ → ℕ → Bool → Type 0
-TellsLines body most r = (gs : List RenderLine) → read_all read_line (raws body) ≡ some gs → r ≡ any_overlapping (take most gs)
+TellsLines body most r = TellsFields (raws body) most r
 
 -- of a guest
 abbrev pub TellsGuest : List ℕ → List ℕ → Bool → Bool → Type 0
@@ -68,6 +72,14 @@ TellsGuest guest prefixes rep r =
     (gs : List RenderLine) (ps : List (List ℕ)) → read_all read_line (raws guest) ≡ some gs → read_all read_prefix (raws prefixes) ≡ some ps
     → r ≡ guest_misfit rep gs ps
 
+-- of one cell
+abbrev pub TellsCell : Raw → Bool → Type 0
+TellsCell field r = (c : Cell) → read_plain_cell field ≡ some c → r ≡ any_overlapping c.lines
+
+-- of cells whose fields stand in a list
+abbrev pub TellsCellFields : List Raw → Bool → Type 0
+TellsCellFields fields r = (cs : List Cell) → read_all read_plain_cell fields ≡ some cs → r ≡ cells_misfit cs
+
 -- of cells
 abbrev pub TellsCells : List ℕ → Bool → Type 0
-TellsCells cells r = (cs : List Cell) → read_all read_plain_cell (raws cells) ≡ some cs → r ≡ cells_misfit cs
+TellsCells cells r = TellsCellFields (raws cells) r

@@ -1,12 +1,13 @@
 -- A guest's lines behind their prefixes: what each function does to the sheet's lines and to the names that wait, for inputs that passed
 -- refusals 1 to 3 and 10.
 -- Assumes nothing: these are definitions.
-use Rattle.std.specs.Prelude.{◌≡◌, Bool, true, false, ◌&&◌, List, [], ◌∷◌, ◌++◌, map, ℕ, ◌+◌, ◌-◌, ◌≤◌, length, take, drop, if◌then◌else◌}
+use Rattle.std.specs.Prelude.{◌≡◌, Bool, true, false, List, [], ◌∷◌, ◌++◌, map, ℕ, Option, None, Some, drop, if◌then◌else◌}
 use Rattle.std.proofs.Math.Option.{some}
-use Rattle.fields.specs.Field.{whole, raws, read_all, all}
+use Rattle.fields.specs.Field.{Raw, raws, read_all, all}
 use Rattle.fields.specs.Text.{readable_text, WellFormed}
 use Rattle.fields.specs.Sheet.{read_prefix}
 use Rattle.fields.specs.Widths.{text_width}
+use Rattle.borders.specs.BorderSegHoriz.{HorizVert}
 use Rattle.borders.specs.BorderHoriz.{new_type}
 use Rattle.rows.specs.declared.RenderOptions.{RenderOptions}
 use Rattle.rows.specs.SubRenderer.{later, with_names, padded, plain_border}
@@ -15,52 +16,37 @@ use Rattle.fields.specs.Spans.{RenderLine, read_name, read_line, readable_line, 
 use Rattle.extend_lines.specs.Emitted.{Emitted}
 use Rattle.extend_lines.specs.declared.line.Lines.{Lines}
 use Rattle.append_subrender.specs.Misfit.{overlapping, any_overlapping, guest_misfit, cells_misfit, behind_prefix, behind_prefixes, cell_lines}
-use Rattle.append_subrender.specs.declared.prefixed.Prefix.{Prefix}
+use Rattle.append_subrender.specs.declared.prefix.Prefix.{Prefix}
 use Rattle.append_subrender.specs.declared.prefixed.Added.{Added}
 
 -- ---- the prefix of the next line
 
--- its numbers
-pub record Placed (prefixes : List ℕ) (p : Prefix) : Type 0 where
-  pub order : p.from ≤ p.to
-  pub inside : p.to ≤ length prefixes
-  pub size : p.to ≤ p.from + 65535
-  pub cols : p.cols ≤ 131070
+-- the prefixes to come, where qs are those after the last one
+abbrev pub coming : Option Prefix → Bool → List (List ℕ) → List (List ℕ)
+coming None rep qs = qs
+coming (Some p) rep qs = later rep p.text.now qs
 
--- its text
-abbrev pub current : List ℕ → Prefix → List ℕ
-current prefixes p = take (p.to - p.from) (drop p.from prefixes)
+-- a prefix is text, of so many columns
+abbrev pub Formed : Option Prefix → Type 0
+Formed None = Unit {0}
+Formed (Some p) = WellFormed p.text.now × (text_width p.text.now ≡ p.cols)
 
--- those to come after it, if there is one, and qs after that
-abbrev pub coming : Bool → Bool → List ℕ → List (List ℕ) → List (List ℕ)
-coming true rep p qs = later rep p qs
-coming false rep p qs = qs
-
--- the prefixes to come are ps
-pub record Coming (prefixes : List ℕ) (rep : Bool) (p : Prefix) (ps : List (List ℕ)) : Type 0 where
+-- the prefixes to come are ps, where the fields of those after the last one are left
+pub record Coming (left : List Raw) (rep : Bool) (last : Option Prefix) (ps : List (List ℕ)) : Type 0 where
   pub after : List (List ℕ)
-  pub reads : read_all read_prefix (raws (drop p.to prefixes)) ≡ some after
+  pub reads : read_all read_prefix left ≡ some after
   pub readable : all (readable_text false) after ≡ true
-  pub all_coming : ps ≡ coming p.found rep (current prefixes p) after
-  pub text : p.found ≡ true → WellFormed (current prefixes p) × (text_width (current prefixes p) ≡ p.cols)
+  pub all_coming : ps ≡ coming last rep after
+  pub formed : Formed last
 
 -- one of them is found, or none is left
-abbrev pub Found : Bool → List ℕ → Bool → Prefix → List (List ℕ) → Type 0
-Found true prefixes rep r ps =
-    (qs : List (List ℕ)) × (ps ≡ current prefixes r ∷ qs) × Coming prefixes rep r (later rep (current prefixes r) qs)
-Found false prefixes rep r ps = ps ≡ []
+abbrev pub Found : Option Prefix → List Raw → Bool → List (List ℕ) → Type 0
+Found None left rep ps = ps ≡ []
+Found (Some p) left rep ps = (qs : List (List ℕ)) × (ps ≡ p.text.now ∷ qs) × Coming left rep (Some p) (later rep p.text.now qs)
 
 -- from one prefix to the next
-abbrev pub Steps : List ℕ → Bool → Prefix → Prefix → Type 0
-Steps prefixes rep p r = (ps : List (List ℕ)) → Coming prefixes rep p ps → Found r.found prefixes rep r ps
-
--- the last one, which stays only if it repeats
-abbrev pub again : Prefix → Bool → Prefix
-again p rep = record { found = p.found && rep; from = p.from; to = p.to; cols = p.cols }
-
--- before the first
-abbrev pub no_prefix : Prefix
-no_prefix = record { found = false; from = 0; to = 0; cols = 0 }
+abbrev pub Steps : List Raw → Bool → Option Prefix → List Raw → Option Prefix → Type 0
+Steps left rep last left' r = (ps : List (List ℕ)) → Coming left rep last ps → Found r left' rep ps
 
 -- ---- lines
 
@@ -69,9 +55,9 @@ abbrev pub NamesOf : List ℕ → List (List ℕ) → Type 0
 NamesOf names ns = read_all read_name (raws names) ≡ some ns
 
 -- one line behind the names ns that wait and its prefix
-abbrev pub AddsPrefixed : List ℕ → Lines → RenderOptions → List ℕ → List ℕ → ℕ → ℕ → List ℕ → List ℕ → Lines → Type 0
-AddsPrefixed out p s names prefix cols letter content out' r =
-    (ns : List (List ℕ)) (g : RenderLine) → NamesOf names ns → read_line (whole letter content) ≡ some g → readable_line g ≡ true → overlapping g ≡ false
+abbrev pub AddsPrefixed : List ℕ → Lines → RenderOptions → List ℕ → List ℕ → ℕ → Raw → List ℕ → Lines → Type 0
+AddsPrefixed out p s names prefix cols field out' r =
+    (ns : List (List ℕ)) (g : RenderLine) → NamesOf names ns → read_line field ≡ some g → readable_line g ≡ true → overlapping g ≡ false
     → WellFormed prefix → text_width prefix ≡ cols
     → (st : List ℕ) (ls : List RenderLine) → Emitted st ls [] [] out p
     → Emitted st (ls ++ (padded s (with_names ns (behind_prefix s prefix g)) ∷ [])) [] [] out' r
@@ -110,11 +96,21 @@ abbrev pub AddsRuleIf : List ℕ → Lines → RenderOptions → ℕ → Bool �
 AddsRuleIf out p s segment drawn out' r =
     (st : List ℕ) (ls : List RenderLine) → Emitted st ls [] [] out p → Emitted st (ls ++ map (padded s) (rule_if s segment drawn)) [] [] out' r
 
--- the lines of one cell, with an empty prefix that repeats
-abbrev pub AddsCell : List ℕ → Added → RenderOptions → List ℕ → List ℕ → List ℕ → Added → Type 0
-AddsCell out p s names body out' r =
-    (ns : List (List ℕ)) (gs : List RenderLine) → NamesOf (drop p.from names) ns → read_all read_line (raws body) ≡ some gs → all readable_line gs ≡ true
+-- lines whose fields stand in a list, with an empty prefix that repeats
+abbrev pub AddsLines : List ℕ → Added → RenderOptions → List ℕ → List Raw → List ℕ → Added → Type 0
+AddsLines out p s names fields out' r =
+    (ns : List (List ℕ)) (gs : List RenderLine) → NamesOf (drop p.from names) ns → read_all read_line fields ≡ some gs → all readable_line gs ≡ true
     → any_overlapping gs ≡ false → Adds out p s names ns (behind_prefixes s true gs ([] ∷ [])) out' r
+
+-- the lines of one cell
+abbrev pub AddsCell : List ℕ → Added → RenderOptions → List ℕ → List ℕ → List ℕ → Added → Type 0
+AddsCell out p s names body out' r = AddsLines out p s names (raws body) out' r
+
+-- a cell behind a border of HorizVert, or behind nothing where that is not drawn
+abbrev pub StacksCell : List ℕ → Added → RenderOptions → List ℕ → Bool → Raw → List ℕ → Added → Type 0
+StacksCell out p s names drawn field out' r =
+    (ns : List (List ℕ)) (c : Cell) → NamesOf (drop p.from names) ns → read_plain_cell field ≡ some c → readable_cell c ≡ true → any_overlapping c.lines ≡ false
+    → Adds out p s names ns (rule_if s HorizVert drawn ++ behind_prefixes s true c.lines ([] ∷ [])) out' r
 
 -- all cells
 abbrev pub AddsCells : List ℕ → Lines → RenderOptions → List ℕ → List ℕ → List ℕ → Added → Type 0

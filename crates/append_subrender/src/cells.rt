@@ -1,13 +1,17 @@
 // Cells below each other: the first line of a cell takes the names that wait, and a border between cells does not. What a function here
 // requires, its callers in this crate show.
-ghost use Rattle.std.specs.Prelude.{◌+◌, ◌*◌, ◌≤◌, ◌<◌, length};
+ghost use Rattle.std.specs.Prelude.{◌+◌, ◌≤◌, ◌<◌, length};
 ghost use Rattle.fields.specs.Field.{raws};
+ghost use Rattle.fields.specs.List.{whole_of};
 ghost use Rattle.extend_lines.specs.Emitted.{InBounds, OneLineMore};
-ghost use Rattle.append_subrender.specs.Prefixes.{AddsRule, AddsRuleIf, AddsCell, AddsCells};
+ghost use Rattle.append_subrender.specs.Prefixes.{AddsRule, AddsRuleIf, AddsCell, StacksCell, AddsCells};
 
+use crate::prefix::Prefix;
 use crate::prefixed::{Added, add_prefixed};
 use extend_lines::line::{Lines, add_border};
-use fields::field::{Field, field_at, wide};
+use fields::field::wide;
+use fields::list::Fields;
+use fields::raw::Field;
 use rows::RenderOptions;
 
 // A border of one segment, as wide as the sheet.
@@ -47,41 +51,42 @@ fn add_cell(
     names: &[u8],
     body: &[u8],
 ) -> Added
-    requires { InBounds added.lines × (added.from ≤ length names.now) × (3 * added.lines.count + length body.now < 3000000) }
-    ensures in_bounds { InBounds result.lines × (result.from ≤ length names.now) × (3 * result.lines.count ≤ 3 * added.lines.count + length body.now) }
+    requires { InBounds added.lines × (added.from ≤ length names.now) × (added.lines.count + length (raws body.now) < 1000000) }
+    ensures in_bounds { InBounds result.lines × (result.from ≤ length names.now) × (result.lines.count ≤ added.lines.count + length (raws body.now)) }
     ensures adds_cell { AddsCell out.old added options names.now body.now out.new result }
 {
-    let mut next = added.lines;
-    let mut from = added.from;
-    let mut at: usize = 0;
-    loop {
-        let f = field_at(body, at);
-        match f {
-            Field::At {
-                letter,
-                start,
-                next: past,
-            } => {
-                next = add_prefixed(
-                    out,
-                    next,
-                    options,
-                    &names[from..],
-                    &body[start..start],
-                    0,
-                    letter,
-                    &body[start..past],
-                );
-                from = names.len();
-                at = past;
-            }
-            Field::Broken => {
-                return Added { lines: next, from };
-            }
-            Field::End => {
-                return Added { lines: next, from };
-            }
+    let mut next = added;
+    for field in Fields::new(body) {
+        if let Ok(field) = field {
+            let waiting = &names[next.from..];
+            let prefix = Prefix { text: &[], cols: 0 };
+            next = Added {
+                lines: add_prefixed(out, next.lines, options, waiting, prefix, field),
+                from: names.len(),
+            };
         }
+    }
+    next
+}
+
+// A cell behind a border of HorizVert, if that is to be drawn.
+fn stack_cell(
+    out: &mut [u8],
+    added: Added,
+    options: RenderOptions,
+    names: &[u8],
+    cell: Field<'_>,
+    drawn: bool,
+) -> Added
+    requires { InBounds added.lines × (added.from ≤ length names.now) × (added.lines.count < 900000) }
+    ensures in_bounds { InBounds result.lines × (result.from ≤ length names.now) × (result.lines.count ≤ added.lines.count + 21846) }
+    ensures stacks_cell { StacksCell out.old added options names.now drawn (whole_of cell.entry) out.new result }
+{
+    let lines = add_rule_if(out, added.lines, options, 5, drawn);
+    let ruled = Added { lines, ..added };
+    match cell.content {
+        [_, body @ ..] => add_cell(out, ruled, options, names, body),
+        _ => ruled,
     }
 }
 
@@ -97,34 +102,13 @@ pub fn add_cells(
     ensures in_bounds { InBounds result.lines × (result.from ≤ length names.now) × (result.lines.count < 1000000) }
     ensures adds_cells { AddsCells out.old lines options names.now cells.now out.new result }
 {
-    let mut next = lines;
-    let mut from: usize = 0;
+    let mut next = Added { lines, from: 0 };
     let mut between = false;
-    let mut at: usize = 0;
-    loop {
-        let f = field_at(cells, at);
-        match f {
-            Field::At {
-                letter: _,
-                start,
-                next: past,
-            } => {
-                next = add_rule_if(out, next, options, 5, between);
-                if start < past {
-                    let so_far = Added { lines: next, from };
-                    let added = add_cell(out, so_far, options, names, &cells[start + 1..past]);
-                    next = added.lines;
-                    from = added.from;
-                }
-                between = options.borders;
-                at = past;
-            }
-            Field::Broken => {
-                return Added { lines: next, from };
-            }
-            Field::End => {
-                return Added { lines: next, from };
-            }
+    for cell in Fields::new(cells) {
+        if let Ok(cell) = cell {
+            next = stack_cell(out, next, options, names, cell, between);
+            between = options.borders;
         }
     }
+    next
 }

@@ -4,7 +4,9 @@
 #![tactic(auto)]
 
 mod cells;
+mod inputs;
 mod misfit;
+mod prefix;
 mod prefixed;
 
 ghost use Rattle.std.specs.Prelude.{◌≡◌};
@@ -12,16 +14,14 @@ ghost use Rattle.fields.specs.Answer.{rendered};
 ghost use Rattle.rows.specs.Answer.{subrender_answer, vert_row_answer};
 
 use crate::cells::{add_cells, add_rule_if};
+use crate::inputs::{check_subrender, check_vert_row, split_sheet};
 use crate::misfit::{cells_misfit, guest_misfit};
 use crate::prefixed::add_guest;
-use checks::cells::plain_cells_refusal;
-use checks::sheet::{sheet_parts, sheet_refusal};
 use extend_lines::copy::{copy_lines, hand_on};
-use extend_lines::line::{close, no_lines};
-use fields::answer::{Rendered, refuse};
-use fields::field::first_of;
-use fields::prefixes::prefixes_refusal;
-use rows::{RenderOptions, width_refusal};
+use extend_lines::line::Lines;
+use fields::answer::refuse;
+use fields::refusal::Refusal;
+use rows::RenderOptions;
 
 // The guest sheet's lines and the prefixes in pairs, which end with the shorter list; the last prefix repeats if the flag
 // says so. Number, length and every byte of the store are those of `subrender_answer`.
@@ -32,30 +32,29 @@ pub fn append_subrender(
     prefixes: &[u8],
     repeats: bool,
     store: &mut [u8],
-) -> Rendered
+) -> Result<usize, Refusal>
     ensures { rendered result store.new ≡ subrender_answer options sheet.now guest.now prefixes.now repeats store.old }
 {
-    let sheets = first_of(sheet_refusal(sheet), sheet_refusal(guest));
-    let rest = first_of(prefixes_refusal(prefixes), width_refusal(options.width));
-    let n = first_of(sheets, rest);
-    if n != 0 {
-        return refuse(n, store);
+    if let Err(refusal) = check_subrender(options, sheet, guest, prefixes) {
+        return refuse(refusal, store);
     }
-    let theirs = sheet_parts(guest);
-    let last = theirs.names;
-    let lines = &guest[5..last];
-    if guest_misfit(lines, prefixes, repeats) {
-        return refuse(10, store);
+    let theirs = split_sheet(guest);
+    if guest_misfit(theirs.lines, prefixes, repeats) {
+        return refuse(Refusal::OverhangMisfit, store);
     }
-    let parts = sheet_parts(sheet);
-    let first = parts.names;
-    let hung = parts.hanging;
-    let old = copy_lines(store, no_lines(), &sheet[5..first]);
-    let names = &sheet[first..hung];
-    let new = add_guest(store, old, options, names, lines, prefixes, repeats);
-    let tail = first + new.from;
-    let all = hand_on(store, new.lines, &sheet[tail..]);
-    close(all, store)
+    let ours = split_sheet(sheet);
+    let old = copy_lines(store, Lines::new(), ours.lines);
+    let new = add_guest(
+        store,
+        old,
+        options,
+        ours.names,
+        theirs.lines,
+        prefixes,
+        repeats,
+    );
+    let all = hand_on(store, new.lines, &ours.behind[new.from..]);
+    all.close(store)
 }
 
 // The cells below each other, each with an empty prefix; borders of HorizVert between them and one of Horiz at the end, if
@@ -65,24 +64,19 @@ pub fn append_vert_row(
     sheet: &[u8],
     cells: &[u8],
     store: &mut [u8],
-) -> Rendered
+) -> Result<usize, Refusal>
     ensures { rendered result store.new ≡ vert_row_answer options sheet.now cells.now store.old }
 {
-    let inputs = first_of(sheet_refusal(sheet), plain_cells_refusal(cells));
-    let n = first_of(inputs, width_refusal(options.width));
-    if n != 0 {
-        return refuse(n, store);
+    if let Err(refusal) = check_vert_row(options, sheet, cells) {
+        return refuse(refusal, store);
     }
     if cells_misfit(cells) {
-        return refuse(10, store);
+        return refuse(Refusal::OverhangMisfit, store);
     }
-    let parts = sheet_parts(sheet);
-    let first = parts.names;
-    let hung = parts.hanging;
-    let old = copy_lines(store, no_lines(), &sheet[5..first]);
-    let stacked = add_cells(store, old, options, &sheet[first..hung], cells);
+    let ours = split_sheet(sheet);
+    let old = copy_lines(store, Lines::new(), ours.lines);
+    let stacked = add_cells(store, old, options, ours.names, cells);
     let lines = add_rule_if(store, stacked.lines, options, 0, options.borders);
-    let tail = first + stacked.from;
-    let all = hand_on(store, lines, &sheet[tail..]);
-    close(all, store)
+    let all = hand_on(store, lines, &ours.behind[stacked.from..]);
+    all.close(store)
 }

@@ -1,20 +1,19 @@
 // Refusal 10 of the two calls, told before anything is written: a border that becomes text and whose holes overlap.
-ghost use Rattle.std.specs.Prelude.{◌<◌, length};
-ghost use Rattle.append_subrender.specs.Misfit.{TellsLine, TellsLines, TellsGuest, TellsCells};
+ghost use Rattle.fields.specs.List.{whole_of};
+ghost use Rattle.append_subrender.specs.Misfit.{TellsLine, TellsLines, TellsGuest, TellsCell, TellsCells};
 
-use fields::field::{Field, field_at};
-use fields::walk::count_fields;
+use fields::list::{Fields, count_fields};
+use fields::raw::Field;
 use holes::overlap::overlaps;
 use places::border::border_parts;
 
 // One line: only a G field has holes.
-fn line_misfit(letter: u8, content: &[u8]) -> bool
-    requires { length content.now < 65536 }
-    ensures { TellsLine letter content.now result }
+fn line_misfit(field: Field<'_>) -> bool
+    ensures { TellsLine (whole_of field.entry) result }
 {
-    if letter == b'G' {
-        let parts = border_parts(letter, content);
-        return overlaps(content, parts.holes, parts.holes - parts.segs);
+    if field.letter == b'G' {
+        let parts = border_parts(field.letter, field.content);
+        return overlaps(field.content, parts.holes, parts.holes - parts.segs);
     }
     false
 }
@@ -23,27 +22,10 @@ fn line_misfit(letter: u8, content: &[u8]) -> bool
 fn lines_misfit(body: &[u8], most: usize) -> bool
     ensures { TellsLines body.now most result }
 {
-    let mut left = most;
-    let mut at: usize = 0;
-    while 0 < left {
-        let f = field_at(body, at);
-        match f {
-            Field::At {
-                letter,
-                start,
-                next,
-            } => {
-                if line_misfit(letter, &body[start..next]) {
-                    return true;
-                }
-                at = next;
-                left -= 1;
-            }
-            Field::Broken => {
-                return false;
-            }
-            Field::End => {
-                return false;
+    for field in Fields::new(body).take(most) {
+        if let Ok(field) = field {
+            if line_misfit(field) {
+                return true;
             }
         }
     }
@@ -64,32 +46,26 @@ pub fn guest_misfit(guest: &[u8], prefixes: &[u8], repeats: bool) -> bool
     lines_misfit(guest, count)
 }
 
-// A line of a cell.
+// A line of a cell: those behind its width.
+fn cell_misfit(cell: Field<'_>) -> bool
+    ensures { TellsCell (whole_of cell.entry) result }
+{
+    match cell.content {
+        [_, lines @ ..] => lines_misfit(lines, lines.len()),
+        _ => false,
+    }
+}
+
+// A line of one of the cells.
 pub fn cells_misfit(cells: &[u8]) -> bool
     ensures { TellsCells cells.now result }
 {
-    let mut at: usize = 0;
-    loop {
-        let f = field_at(cells, at);
-        match f {
-            Field::At {
-                letter: _,
-                start,
-                next,
-            } => {
-                if start < next {
-                    if lines_misfit(&cells[start + 1..next], next - start) {
-                        return true;
-                    }
-                }
-                at = next;
-            }
-            Field::Broken => {
-                return false;
-            }
-            Field::End => {
-                return false;
+    for cell in Fields::new(cells) {
+        if let Ok(cell) = cell {
+            if cell_misfit(cell) {
+                return true;
             }
         }
     }
+    false
 }

@@ -1,28 +1,22 @@
 // A guest's lines behind their prefixes, the first of them behind the names that wait. What a function here requires, its callers in
 // this crate show.
-ghost use Rattle.std.specs.Prelude.{◌≡◌, ◌+◌, ◌≤◌, ◌<◌, length};
+ghost use Rattle.std.specs.Prelude.{◌+◌, ◌≤◌, ◌<◌, length};
 ghost use Rattle.fields.specs.Field.{raws};
+ghost use Rattle.fields.specs.List.{left, whole_of};
 ghost use Rattle.extend_lines.specs.Emitted.{InBounds, OneLineMore};
-ghost use Rattle.append_subrender.specs.Prefixes.{Placed, again, Steps, AddsPrefixed, AddsGuest};
+ghost use Rattle.append_subrender.specs.Prefixes.{Steps, AddsPrefixed, AddsGuest};
 
+use crate::prefix::Prefix;
 use extend_lines::line::{Lines, add_text_line, begin_line, too_long};
-use fields::field::{Field, field_at};
+use fields::list::Fields;
+use fields::raw::Field;
 use fields::width::text_width;
 use holes::draw::push_holed;
 use places::border::border_parts;
 use rows::RenderOptions;
 
-// The prefix of the next line, from one place to another of the prefixes' bytes, and its columns; or that there is none.
-#[derive(Clone, Copy)]
-pub struct Prefix {
-    pub found: bool,
-    pub from: usize,
-    pub to: usize,
-    pub cols: usize,
-}
-
 // The lines so far, and where the names that still wait begin: at the first name, or behind the last once a line took them.
-#[derive(Clone, Copy)]
+#[derive(Clone, Copy, Debug, PartialEq, Eq)]
 pub struct Added {
     pub lines: Lines,
     pub from: usize,
@@ -35,67 +29,52 @@ pub fn add_prefixed(
     lines: Lines,
     options: RenderOptions,
     names: &[u8],
-    prefix: &[u8],
-    cols: usize,
-    letter: u8,
-    content: &[u8],
+    prefix: Prefix<'_>,
+    field: Field<'_>,
 ) -> Lines
-    requires { InBounds lines × (length prefix.now < 65536) × (cols ≤ 131070) × (length content.now < 65536) }
+    requires { InBounds lines }
     ensures one_line_more { OneLineMore lines result }
-    ensures adds_prefixed { AddsPrefixed out.old lines options names.now prefix.now cols letter content.now out.new result }
+    ensures adds_prefixed { AddsPrefixed out.old lines options names.now prefix.entry.text.now prefix.entry.cols (whole_of field.entry) out.new result }
 {
     if 65535 < names.len() {
         return too_long(lines);
     }
     let annotation = options.annotation;
     let line = begin_line(out, lines, names);
-    let head = line.push_str(out, annotation, prefix, cols);
-    if letter == b'L' {
+    let head = line.push_str(out, annotation, prefix.text, prefix.cols);
+    if field.letter == b'L' {
         let waits = 0 < names.len();
-        let whole = head.add_pieces(out, content, true, waits);
+        let whole = head.add_pieces(out, field.content, true, waits);
         return add_text_line(out, lines, whole, options);
     }
-    let parts = border_parts(letter, content);
-    let drawn = push_holed(out, head, annotation, content, parts.segs, parts.holes, 0);
+    let parts = border_parts(field.letter, field.content);
+    let drawn = push_holed(
+        out,
+        head,
+        annotation,
+        field.content,
+        parts.segs,
+        parts.holes,
+        0,
+    );
     add_text_line(out, lines, drawn, options)
 }
 
-// The last prefix, which stays only if it repeats.
-fn prefix_again(prefix: Prefix, repeats: bool) -> Prefix
-    ensures { result ≡ again prefix repeats }
-{
-    let found = prefix.found && repeats;
-    Prefix {
-        found,
-        from: prefix.from,
-        to: prefix.to,
-        cols: prefix.cols,
-    }
-}
-
 // The prefix after one: the next P field, or the same again if the last repeats.
-fn next_prefix(prefixes: &[u8], prefix: Prefix, repeats: bool) -> Prefix
-    requires { Placed prefixes.now prefix }
-    ensures placed { Placed prefixes.now result }
-    ensures steps { Steps prefixes.now repeats prefix result }
+fn next_prefix<'a>(
+    prefixes: &mut Fields<'a>,
+    last: Option<Prefix<'a>>,
+    repeats: bool,
+) -> Option<Prefix<'a>>
+    ensures { Steps (left prefixes.old) repeats last.entry (left prefixes.new) result }
 {
-    let f = field_at(prefixes, prefix.to);
-    match f {
-        Field::At {
-            letter: _,
-            start,
-            next,
-        } => {
-            let cols = text_width(&prefixes[start..next]);
-            Prefix {
-                found: true,
-                from: start,
-                to: next,
-                cols,
-            }
-        }
-        Field::Broken => prefix_again(prefix, repeats),
-        Field::End => prefix_again(prefix, repeats),
+    match prefixes.next() {
+        Some(Ok(field)) => Some(Prefix {
+            text: field.content,
+            cols: text_width(field.content),
+        }),
+        Some(Err(_)) => None,
+        None => if repeats { last } else { None },
     }
 }
 
@@ -113,48 +92,22 @@ pub fn add_guest(
     ensures in_bounds { InBounds result.lines × (result.from ≤ length names.now) }
     ensures adds_guest { AddsGuest out.old lines options names.now guest.now prefixes.now repeats out.new result }
 {
-    let mut next = lines;
-    let mut from: usize = 0;
-    let mut prefix = Prefix {
-        found: false,
-        from: 0,
-        to: 0,
-        cols: 0,
-    };
-    let mut at: usize = 0;
-    loop {
-        prefix = next_prefix(prefixes, prefix, repeats);
-        if !prefix.found {
-            return Added { lines: next, from };
-        }
-        let f = field_at(guest, at);
-        match f {
-            Field::At {
-                letter,
-                start,
-                next: past,
-            } => {
-                let first = prefix.from;
-                let to = prefix.to;
-                next = add_prefixed(
-                    out,
-                    next,
-                    options,
-                    &names[from..],
-                    &prefixes[first..to],
-                    prefix.cols,
-                    letter,
-                    &guest[start..past],
-                );
-                from = names.len();
-                at = past;
-            }
-            Field::Broken => {
-                return Added { lines: next, from };
-            }
-            Field::End => {
-                return Added { lines: next, from };
-            }
-        }
+    let mut next = Added { lines, from: 0 };
+    let mut coming = Fields::new(prefixes);
+    let mut last = None;
+    for field in Fields::new(guest) {
+        let Some(prefix) = next_prefix(&mut coming, last, repeats) else {
+            return next;
+        };
+        last = Some(prefix);
+        let Ok(field) = field else {
+            return next;
+        };
+        let waiting = &names[next.from..];
+        next = Added {
+            lines: add_prefixed(out, next.lines, options, waiting, prefix, field),
+            from: names.len(),
+        };
     }
+    next
 }

@@ -11,8 +11,7 @@ ghost use Rattle.std.specs.Prelude.{◌<◌};
 
 use append_columns::append_columns_with_borders;
 use append_subrender::{append_subrender, append_vert_row};
-use fields::answer::Rendered;
-use fields::field::wide;
+use fields::refusal::Refusal;
 use input::read_full;
 use render::render;
 use rows::RenderOptions;
@@ -22,404 +21,324 @@ use std::io::{Stdin, Stdout};
 // What fills the store before the call.
 const FILL: u8 = 0xEE;
 
+// The size of each space.
+const SPACE: usize = 262144;
+
+// Why a record does not come to the same: reading fails, it cannot be read whole, or its call gets another answer.
+#[derive(Drop)]
+enum Failure {
+    Io(io::Error),
+    Unread,
+    Different,
+}
+
+impl From<io::Error> for Failure {
+    fn from(error: io::Error) -> Failure {
+        Failure::Io(error)
+    }
+}
+
+// The calls.
+#[derive(Clone, Copy, Debug, PartialEq, Eq)]
+enum Kind {
+    Job,
+    Subrender,
+    Columns,
+    VertRow,
+}
+
+impl TryFrom<u8> for Kind {
+    type Error = Failure;
+
+    fn try_from(byte: u8) -> Result<Kind, Failure> {
+        match byte {
+            0 => Ok(Kind::Job),
+            1 => Ok(Kind::Subrender),
+            2 => Ok(Kind::Columns),
+            3 => Ok(Kind::VertRow),
+            _ => Err(Failure::Unread),
+        }
+    }
+}
+
 // Which call a record asks for, what comes with it, and its own flag: whether the last prefix repeats, or whether to collapse.
-#[derive(Clone, Copy)]
+#[derive(Clone, Copy, Debug, PartialEq, Eq)]
 struct Call {
-    kind: u8,
+    kind: Kind,
     options: RenderOptions,
     flag: bool,
 }
 
-// What a record starts with; the file can also end here, or in the middle of it.
+// The inputs of a call: a job or a sheet, a guest sheet or cells, and prefixes.
 #[derive(Clone, Copy)]
-enum Head {
-    Asked(Call),
-    Unread,
-    End,
+struct Inputs<'a, 'b, 'c> {
+    first: &'a [u8],
+    second: &'b [u8],
+    third: &'c [u8],
 }
 
 // The length of the store, and the number and the length that the call must say.
-#[derive(Clone, Copy)]
+#[derive(Clone, Copy, Debug, PartialEq, Eq)]
 struct Answer {
     store: usize,
     number: u8,
     length: usize,
 }
 
-// What a record has after its inputs, unless the file ends there.
-#[derive(Clone, Copy)]
-enum Tail {
-    Asks(Answer),
-    Unread,
-}
-
-// What one record comes to; the number if it is the same.
-#[derive(Clone, Copy)]
-enum Turn {
-    Same { kind: u8, number: u8 },
-    Different,
-    End,
-}
-
-// How many records there were, and how many of them differ.
-#[derive(Clone, Copy)]
+// How many records there were, how many of them differ, and how often each kind and each number came.
+#[derive(Drop)]
 struct Tally {
     records: u64,
     differences: u64,
+    kinds: [u64; 256],
+    numbers: [u64; 256],
+}
+
+impl Tally {
+    // Counts a record that comes to the same, by its kind and its number.
+    fn count(&mut self, kind: Kind, number: u8) {
+        self.records = self.records.wrapping_add(1);
+        let kinds = &mut self.kinds[usize::from(kind as u8)];
+        *kinds = kinds.wrapping_add(1);
+        let numbers = &mut self.numbers[usize::from(number)];
+        *numbers = numbers.wrapping_add(1);
+    }
+
+    // Counts a record that does not.
+    fn count_difference(&mut self) {
+        self.records = self.records.wrapping_add(1);
+        self.differences = self.differences.wrapping_add(1);
+    }
 }
 
 // A number of three bytes, the high byte first.
-fn three(high: u8, middle: u8, low: u8) -> usize
+fn three(bytes: [u8; 3]) -> usize
     ensures { result < 16777216 }
 {
-    wide(high) * 65536 + wide(middle) * 256 + wide(low)
+    let [high, middle, low] = bytes;
+    usize::from(high) * 65536 + usize::from(middle) * 256 + usize::from(low)
 }
 
-// Reads which call a record asks for.
-fn read_head(from: &mut Stdin) -> io::Result<Head> {
+// Reads bytes that fill the slice.
+fn read(from: &mut Stdin, bytes: &mut [u8]) -> Result<(), Failure> {
+    let len = bytes.len();
+    if read_full(from, bytes)? != len {
+        return Err(Failure::Unread);
+    }
+    Ok(())
+}
+
+// Reads which call a record asks for, if one is left.
+fn read_call(from: &mut Stdin) -> Result<Option<Call>, Failure> {
     let mut head = [0u8; 6];
     let got = read_full(from, &mut head)?;
     if got == 0 {
-        return Ok(Head::End);
+        return Ok(None);
     }
-    if got != 6 || 3 < head[0] {
-        return Ok(Head::Unread);
+    if got != 6 {
+        return Err(Failure::Unread);
     }
-    let flags = head[2];
-    Ok(Head::Asked(Call {
-        kind: head[0],
+    let [kind, width, flags, annotation, _, _] = head;
+    Ok(Some(Call {
+        kind: Kind::try_from(kind)?,
         options: RenderOptions {
-            width: head[1],
+            width,
             pad: flags & 1 != 0,
             borders: flags & 2 != 0,
-            annotation: head[3],
+            annotation,
         },
         flag: flags & 4 != 0,
     }))
 }
 
-// Reads what stands between a record's inputs and its sheet.
-fn read_tail(from: &mut Stdin) -> io::Result<Tail> {
-    let mut tail = [0u8; 8];
-    if read_full(from, &mut tail)? != 8 {
-        return Ok(Tail::Unread);
-    }
-    Ok(Tail::Asks(Answer {
-        store: three(tail[0], tail[1], tail[2]),
-        number: tail[3],
-        length: wide(tail[4]) * 16777216 + three(tail[5], tail[6], tail[7]),
-    }))
-}
-
-// Reads bytes that fill the slice, and says whether there were so many.
-fn read(from: &mut Stdin, bytes: &mut [u8]) -> io::Result<bool> {
-    let len = bytes.len();
-    Ok(read_full(from, bytes)? == len)
-}
-
-// Reads the length of an input; where the file ends, it is longer than every space.
-fn read_length(from: &mut Stdin) -> io::Result<usize> {
-    let mut bytes = [0u8; 3];
-    if read_full(from, &mut bytes)? != 3 {
-        return Ok(usize::MAX);
-    }
-    Ok(three(bytes[0], bytes[1], bytes[2]))
-}
-
-// Reads an input into a part of its space and answers its length; one that cannot be read is longer than every space.
-fn read_input(from: &mut Stdin, space: &mut [u8]) -> io::Result<usize> {
-    let len = read_length(from)?;
-    if space.len() < len {
-        return Ok(usize::MAX);
-    }
-    if read(from, &mut space[..len])? {
-        Ok(len)
-    } else {
-        Ok(usize::MAX)
+// Reads an input into the start of its space.
+fn read_input<'a>(from: &mut Stdin, space: &'a mut [u8]) -> Result<&'a [u8], Failure> {
+    let mut length = [0u8; 3];
+    read(from, &mut length)?;
+    match space.get_mut(..three(length)) {
+        Some(input) => {
+            read(from, input)?;
+            Ok(input)
+        }
+        None => Err(Failure::Unread),
     }
 }
 
-// The same for the second input, which a job has not, and for the third, which a record of kind 1 alone has.
-fn read_further(from: &mut Stdin, there: bool, space: &mut [u8]) -> io::Result<usize> {
+// The same for an input that only some calls have; for the others it is empty.
+fn read_further<'a>(
+    from: &mut Stdin,
+    there: bool,
+    space: &'a mut [u8],
+) -> Result<&'a [u8], Failure> {
     if there {
         return read_input(from, space);
     }
-    Ok(0)
+    Ok(&[])
 }
 
-// Fills the store.
-fn fill(store: &mut [u8]) {
-    let mut i: usize = 0;
-    while i < store.len() {
-        store[i] = FILL;
-        i += 1;
-    }
-}
-
-// The byte of a list at a place, or what stands past its end.
-fn byte_or(list: &[u8], at: usize, past: u8) -> u8 {
-    if at < list.len() { list[at] } else { past }
+// Reads what stands between a record's inputs and its sheet.
+fn read_answer(from: &mut Stdin) -> Result<Answer, Failure> {
+    let mut bytes = [0u8; 8];
+    read(from, &mut bytes)?;
+    let [a, b, c, number, high, d, e, f] = bytes;
+    Ok(Answer {
+        store: three([a, b, c]),
+        number,
+        length: usize::from(high) * 16777216 + three([d, e, f]),
+    })
 }
 
 // Is the store the sheet, and one byte in every place past it?
 fn holds(store: &[u8], sheet: &[u8], past: u8) -> bool {
-    let mut i: usize = 0;
-    while i < store.len() {
-        if store[i] != byte_or(sheet, i, past) {
-            return false;
-        }
-        i += 1;
+    match store.split_at_checked(sheet.len()) {
+        Some((start, rest)) => start == sheet && rest.iter().all(|byte| *byte == past),
+        None => false,
     }
-    sheet.len() <= store.len()
 }
 
 // Does the call say the number and the length?
-fn says(rendered: Rendered, answer: Answer) -> bool {
-    match rendered {
-        Rendered::Sheet(len) => answer.number == 0 && answer.length == len,
-        Rendered::Refused(number) => answer.number == number && answer.length == 0,
-        Rendered::StoreShort(len) => answer.number == 8 && answer.length == len,
+fn says(said: Result<usize, Refusal>, answer: Answer) -> bool {
+    match said {
+        Ok(length) => answer.number == 0 && answer.length == length,
+        Err(refusal) => { answer.number == refusal.number() && answer.length == refusal.needed() }
     }
 }
 
-// The call that a record asks for. The first input is a job or a sheet, the second a guest sheet or cells; `append_subrender` alone has a third.
-fn run(call: Call, old: &[u8], guest: &[u8], prefixes: &[u8], store: &mut [u8]) -> Rendered {
-    let kind = call.kind;
-    let options = call.options;
+// The call that a record asks for.
+fn run(call: Call, inputs: Inputs<'_, '_, '_>, store: &mut [u8]) -> Result<usize, Refusal> {
+    let Call {
+        kind,
+        options,
+        flag,
+    } = call;
+    let Inputs {
+        first,
+        second,
+        third,
+    } = inputs;
     match kind {
-        0 => render(old, store),
-        1 => append_subrender(options, old, guest, prefixes, call.flag, store),
-        2 => append_columns_with_borders(options, old, guest, call.flag, store),
-        _ => append_vert_row(options, old, guest, store),
+        Kind::Job => render(first, store),
+        Kind::Subrender => append_subrender(options, first, second, third, flag, store),
+        Kind::Columns => append_columns_with_borders(options, first, second, flag, store),
+        Kind::VertRow => append_vert_row(options, first, second, store),
     }
 }
 
 // Does the call get the answer and leave the sheet in the store, or zeros?
 fn agrees(
     call: Call,
-    old: &[u8],
-    guest: &[u8],
-    prefixes: &[u8],
+    inputs: Inputs<'_, '_, '_>,
     answer: Answer,
     sheet: &[u8],
     store: &mut [u8],
 ) -> bool {
-    fill(store);
-    let rendered = run(call, old, guest, prefixes, store);
+    store.fill(FILL);
+    let said = run(call, inputs, store);
     let past = if answer.number == 0 { FILL } else { 0 };
-    says(rendered, answer) && holds(store, sheet, past)
+    says(said, answer) && holds(store, sheet, past)
 }
 
-// The same with the sheet, which fills the slice, still to be read.
-fn reads_and_agrees(
-    from: &mut Stdin,
-    call: Call,
-    old: &[u8],
-    guest: &[u8],
-    prefixes: &[u8],
-    answer: Answer,
-    sheet: &mut [u8],
-    store: &mut [u8],
-) -> io::Result<bool> {
-    Ok(read(from, sheet)? && agrees(call, old, guest, prefixes, answer, sheet, store))
-}
-
-// The same in parts of the spaces; what is longer than its space cannot be read.
-fn agrees_within(
-    from: &mut Stdin,
-    call: Call,
-    old: &[u8],
-    guest: &[u8],
-    prefixes: &[u8],
-    answer: Answer,
-    sheets: &mut [u8],
-    stores: &mut [u8],
-) -> io::Result<bool> {
-    let len = if answer.number == 0 { answer.length } else { 0 };
-    let size = answer.store;
-    if sheets.len() < len {
-        return Ok(false);
-    }
-    if stores.len() < size {
-        return Ok(false);
-    }
-    reads_and_agrees(
-        from,
-        call,
-        old,
-        guest,
-        prefixes,
-        answer,
-        &mut sheets[..len],
-        &mut stores[..size],
-    )
-}
-
-// Reads what a record has after its inputs, and compares.
+// Reads what a record has after its inputs, compares, and answers the number; what is longer than its space cannot be read.
 fn replay_call(
     from: &mut Stdin,
     call: Call,
-    old: &[u8],
-    guest: &[u8],
-    prefixes: &[u8],
+    inputs: Inputs<'_, '_, '_>,
     sheets: &mut [u8],
     stores: &mut [u8],
-) -> io::Result<Turn> {
-    let tail = read_tail(from)?;
-    match tail {
-        Tail::Asks(answer) => {
-            if agrees_within(from, call, old, guest, prefixes, answer, sheets, stores)? {
-                Ok(Turn::Same {
-                    kind: call.kind,
-                    number: answer.number,
-                })
-            } else {
-                Ok(Turn::Different)
-            }
-        }
-        Tail::Unread => Ok(Turn::Different),
+) -> Result<u8, Failure> {
+    let answer = read_answer(from)?;
+    let length = if answer.number == 0 { answer.length } else { 0 };
+    let (Some(sheet), Some(store)) = (sheets.get_mut(..length), stores.get_mut(..answer.store))
+    else {
+        return Err(Failure::Unread);
+    };
+    read(from, sheet)?;
+    if !agrees(call, inputs, answer, sheet, store) {
+        return Err(Failure::Different);
     }
+    Ok(answer.number)
 }
 
-// The same with the inputs still to be read.
-fn replay_within(
-    from: &mut Stdin,
-    call: Call,
-    olds: &mut [u8],
-    guests: &mut [u8],
-    lists: &mut [u8],
-    sheets: &mut [u8],
-    stores: &mut [u8],
-) -> io::Result<Turn> {
-    let old = read_input(from, olds)?;
-    let guest = read_further(from, call.kind != 0, guests)?;
-    let list = read_further(from, call.kind == 1, lists)?;
-    if olds.len() < old {
-        return Ok(Turn::Different);
-    }
-    if guests.len() < guest {
-        return Ok(Turn::Different);
-    }
-    if lists.len() < list {
-        return Ok(Turn::Different);
-    }
-    replay_call(
-        from,
-        call,
-        &olds[..old],
-        &guests[..guest],
-        &lists[..list],
-        sheets,
-        stores,
-    )
-}
-
-// Reads and compares one record; one that cannot be read whole is different.
+// Reads and compares one record, if one is left, and answers its kind and its number. The spaces are five slices and no struct: the borrow
+// checker lends the fields behind one reference one at a time.
 fn replay(
     from: &mut Stdin,
-    olds: &mut [u8],
-    guests: &mut [u8],
-    lists: &mut [u8],
+    firsts: &mut [u8],
+    seconds: &mut [u8],
+    thirds: &mut [u8],
     sheets: &mut [u8],
     stores: &mut [u8],
-) -> io::Result<Turn> {
-    let head = read_head(from)?;
-    match head {
-        Head::Asked(call) => replay_within(from, call, olds, guests, lists, sheets, stores),
-        Head::Unread => Ok(Turn::Different),
-        Head::End => Ok(Turn::End),
-    }
-}
-
-// Counts a number, a kind's or an answer's.
-fn count(counts: &mut [u64; 256], number: u8) {
-    let at = wide(number);
-    counts[at] = counts[at].wrapping_add(1);
+) -> Result<Option<(Kind, u8)>, Failure> {
+    let Some(call) = read_call(from)? else {
+        return Ok(None);
+    };
+    let first = read_input(from, firsts)?;
+    let second = read_further(from, call.kind != Kind::Job, seconds)?;
+    let third = read_further(from, call.kind == Kind::Subrender, thirds)?;
+    let inputs = Inputs {
+        first,
+        second,
+        third,
+    };
+    let number = replay_call(from, call, inputs, sheets, stores)?;
+    Ok(Some((call.kind, number)))
 }
 
 // Replays the records up to the end of the file.
 fn replay_all(
     from: &mut Stdin,
-    olds: &mut [u8],
-    guests: &mut [u8],
-    lists: &mut [u8],
+    firsts: &mut [u8],
+    seconds: &mut [u8],
+    thirds: &mut [u8],
     sheets: &mut [u8],
     stores: &mut [u8],
-    kinds: &mut [u64; 256],
-    numbers: &mut [u64; 256],
-) -> io::Result<Tally> {
-    let mut records: u64 = 0;
-    let mut differences: u64 = 0;
-    while records < u64::MAX {
-        let turn = replay(from, olds, guests, lists, sheets, stores)?;
-        match turn {
-            Turn::Same { kind, number } => {
-                records += 1;
-                count(kinds, kind);
-                count(numbers, number);
-            }
-            Turn::Different => {
-                records += 1;
-                differences += 1;
-            }
-            Turn::End => {
-                break;
-            }
+    tally: &mut Tally,
+) -> io::Result<()> {
+    for _ in 0..u64::MAX {
+        match replay(from, firsts, seconds, thirds, sheets, stores) {
+            Ok(Some((kind, number))) => tally.count(kind, number),
+            Ok(None) => break,
+            Err(Failure::Io(error)) => return Err(error),
+            Err(_) => tally.count_difference(),
         }
-    }
-    Ok(Tally {
-        records,
-        differences,
-    })
-}
-
-// Writes a line of a word and a number.
-fn print(out: &Stdout, word: &[u8], n: u64) -> io::Result<()> {
-    out.write_all(word)?;
-    println!(out; "{n}")
-}
-
-// Writes how often a number came, if it came, behind a word.
-fn print_count(out: &Stdout, word: &[u8], number: u64, n: u64) -> io::Result<()> {
-    if n != 0 {
-        out.write_all(word)?;
-        print!(out; "{number}")?;
-        print(out, b": ", n)?;
     }
     Ok(())
 }
 
-// The same for each number.
-fn print_counts(out: &Stdout, word: &[u8], counts: &[u64; 256]) -> io::Result<()> {
-    let mut number: usize = 0;
-    while number < 256 {
-        print_count(out, word, number as u64, counts[number])?;
-        number += 1;
+// Writes how often each number came, if it came, behind a word.
+fn print_counts(out: &Stdout, word: &str, counts: &[u64; 256]) -> io::Result<()> {
+    for (number, count) in counts.iter().enumerate() {
+        if *count != 0 {
+            println!(out; "{word} {number}: {count}")?;
+        }
     }
     Ok(())
 }
 
 fn main(rt: HostRuntime) -> io::Result<()> {
-    let mut olds = [0u8; 262144];
-    let mut guests = [0u8; 262144];
-    let mut lists = [0u8; 262144];
-    let mut sheets = [0u8; 262144];
-    let mut stores = [0u8; 262144];
-    let mut kinds = [0u64; 256];
-    let mut numbers = [0u64; 256];
-    let tally = replay_all(
+    let mut firsts = [0u8; SPACE];
+    let mut seconds = [0u8; SPACE];
+    let mut thirds = [0u8; SPACE];
+    let mut sheets = [0u8; SPACE];
+    let mut stores = [0u8; SPACE];
+    let mut tally = Tally {
+        records: 0,
+        differences: 0,
+        kinds: [0; 256],
+        numbers: [0; 256],
+    };
+    replay_all(
         &mut rt.stdin(),
-        &mut olds,
-        &mut guests,
-        &mut lists,
+        &mut firsts,
+        &mut seconds,
+        &mut thirds,
         &mut sheets,
         &mut stores,
-        &mut kinds,
-        &mut numbers,
+        &mut tally,
     )?;
     let out = rt.stdout();
-    print(&out, b"records: ", tally.records)?;
-    print_counts(&out, b"kind ", &kinds)?;
-    print_counts(&out, b"number ", &numbers)?;
-    print(&out, b"differences: ", tally.differences)
+    println!(out; "records: {}", tally.records)?;
+    print_counts(&out, "kind", &tally.kinds)?;
+    print_counts(&out, "number", &tally.numbers)?;
+    println!(out; "differences: {}", tally.differences)
 }

@@ -1,7 +1,7 @@
 // Reads a job from standard input and writes its sheet, or one line `refused ` and the number (document 01).
 #![tactic(auto)]
 
-use fields::answer::Rendered;
+use fields::refusal::Refusal;
 use input::read_full;
 use render::render;
 use std::io;
@@ -9,24 +9,22 @@ use std::io::Stdout;
 
 // Writes the first bytes of the store.
 fn write_sheet(out: &Stdout, store: &[u8], len: usize) -> io::Result<()> {
-    if len <= store.len() {
-        out.write_all(&store[..len])?;
+    if let Some(sheet) = store.get(..len) {
+        out.write_all(sheet)?;
     }
     Ok(())
 }
 
 // Says a refusal.
-fn refuse(out: &Stdout, number: u8) -> io::Result<()> {
-    println!(out; "refused {number}")
+fn refuse(out: &Stdout, refusal: Refusal) -> io::Result<()> {
+    println!(out; "refused {}", refusal.number())
 }
 
 // Writes the job's sheet or says its refusal.
 fn answer(out: &Stdout, job: &[u8], store: &mut [u8]) -> io::Result<()> {
-    let rendered = render(job, store);
-    match rendered {
-        Rendered::Sheet(len) => write_sheet(out, store, len),
-        Rendered::Refused(number) => refuse(out, number),
-        Rendered::StoreShort(_) => refuse(out, 8),
+    match render(job, store) {
+        Ok(len) => write_sheet(out, store, len),
+        Err(refusal) => refuse(out, refusal),
     }
 }
 
@@ -37,7 +35,7 @@ fn main(rt: HostRuntime) -> io::Result<()> {
     let out = rt.stdout();
     let len = read_full(&mut rt.stdin(), &mut input)?;
     if len == 65537 {
-        refuse(&out, 1)
+        refuse(&out, Refusal::CrookedRecord)
     } else {
         answer(&out, &input[..len], &mut store)
     }

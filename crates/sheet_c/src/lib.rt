@@ -10,27 +10,35 @@ ghost use Rattle.sheet_c.specs.CAnswer.{answer, CAnswer, options};
 
 use append_columns::append_columns_with_borders;
 use append_subrender::{append_subrender, append_vert_row};
-use fields::answer::Rendered;
+use fields::refusal::Refusal;
 use render::render;
 use rows::RenderOptions;
 
 // The number of what a call says, and its length: the sheet's, 0 for a refusal, and for refusal 8 the length needed.
-fn tell(said: Rendered, length: &mut u64) -> u8
+fn tell(said: Result<usize, Refusal>, length: &mut u64) -> u8
     ensures { CAnswer said result length.new }
 {
     match said {
-        Rendered::Sheet(bytes) => {
+        Ok(bytes) => {
             *length = bytes as u64;
             0
         }
-        Rendered::Refused(number) => {
-            *length = 0;
-            number
+        Err(refusal) => {
+            *length = refusal.needed() as u64;
+            refusal.number()
         }
-        Rendered::StoreShort(bytes) => {
-            *length = bytes as u64;
-            8
-        }
+    }
+}
+
+// What comes with a call on a sheet.
+fn given(width: u8, pad: bool, borders: bool, annotation: u8) -> RenderOptions
+    ensures { result ≡ options width pad borders annotation }
+{
+    RenderOptions {
+        width,
+        pad,
+        borders,
+        annotation,
     }
 }
 
@@ -60,12 +68,7 @@ pub extern "C" fn sheet_append_subrender(
     ensures { answer result length.new store.new
         ≡ subrender_answer (options width pad borders annotation) sheet.now guest.now prefixes.now repeat_last store.old }
 {
-    let options = RenderOptions {
-        width,
-        pad,
-        borders,
-        annotation,
-    };
+    let options = given(width, pad, borders, annotation);
     let said = append_subrender(options, sheet, guest, prefixes, repeat_last, store);
     tell(said, length)
 }
@@ -86,12 +89,7 @@ pub extern "C" fn sheet_append_columns_with_borders(
     ensures { answer result length.new store.new
         ≡ columns_answer (options width pad borders annotation) sheet.now cells.now collapse store.old }
 {
-    let options = RenderOptions {
-        width,
-        pad,
-        borders,
-        annotation,
-    };
+    let options = given(width, pad, borders, annotation);
     let said = append_columns_with_borders(options, sheet, cells, collapse, store);
     tell(said, length)
 }
@@ -110,12 +108,7 @@ pub extern "C" fn sheet_append_vert_row(
 ) -> u8
     ensures { answer result length.new store.new ≡ vert_row_answer (options width pad borders annotation) sheet.now cells.now store.old }
 {
-    let options = RenderOptions {
-        width,
-        pad,
-        borders,
-        annotation,
-    };
+    let options = given(width, pad, borders, annotation);
     let said = append_vert_row(options, sheet, cells, store);
     tell(said, length)
 }

@@ -5,4 +5,4 @@ use Rattle.sheet_c.proofs.sheet_append_subrender.Goals as goal
 
 pub returns : goal.returns
 returns c =
-    c.tell.ensures _ ∙ c.append_subrender-said.ensures
+    c.tell.ensures _ ∙ rw c.given-options.ensures at c.append_subrender-said.ensures

@@ -5,4 +5,4 @@ use Rattle.sheet_c.proofs.sheet_append_vert_row.Goals as goal
 
 pub returns : goal.returns
 returns c =
-    c.tell.ensures _ ∙ c.append_vert_row-said.ensures
+    c.tell.ensures _ ∙ rw c.given-options.ensures at c.append_vert_row-said.ensures

@@ -1,12 +1,8 @@
 -- `cells::add_cells` meets its contract: the cells added so far, and those left, give the whole.
 -- Assumes nothing.
-use Prim.Native.Nat.{◌-◌}
-use lib.ListN.{length}
+use Rattle.fields.specs.List.{left}
 use Rattle.append_subrender.proofs.Stacking.{Stack}
 use Rattle.append_subrender.proofs.cells.add_cells.Given as goal
 
-abbrev pub invariant-loop-start : goal.invariant-loop-start
-invariant-loop-start l = Stack l.initial.out l.initial.next l.options l.names l.cells l.out l.next l.from l.between l.at
-
-abbrev pub decreases-loop-start : goal.decreases-loop-start
-decreases-loop-start l = length l.cells - l.at
+abbrev pub invariant-loop-cell : goal.invariant-loop-cell
+invariant-loop-cell l = Stack l.initial.out l.fn.lines l.options l.names l.cells l.out l.next l.between (left l.cell-iterator)

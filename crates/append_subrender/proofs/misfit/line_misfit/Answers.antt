@@ -8,14 +8,10 @@ pub overflow_sub-parts : goal.overflow_sub-parts
 overflow_sub-parts c =
     c.border_parts-parts.ensures.parts_in.order
 
-pub overlaps-requires : goal.overlaps-requires
-overlaps-requires c =
-    c.requires
-
-pub returns-then-letter-eq71 : goal.returns-then-letter-eq71
-returns-then-letter-eq71 c =
-    tells_holed _ _ _ _ c.border_parts-parts.ensures.parts_in c.border_parts-parts.ensures.finds_parts c.overlaps.ensures (λ e. omega (arith, c.if-letter-eq71.true, e))
+pub returns-then-field-eq71 : goal.returns-then-field-eq71
+returns-then-field-eq71 c =
+    tells_holed _ _ _ _ c.border_parts-parts.ensures.parts_in c.border_parts-parts.ensures.finds_parts c.overlaps.ensures (λ e. omega (arith, c.if-field-eq71.true, e))
 
 pub returns : goal.returns
 returns c =
-    tells_plain _ _ c.if-letter-eq71.false
+    tells_plain _ _ c.if-field-eq71.false

@@ -1,56 +1,30 @@
-use mathlib.Core.Path.{sym, ◌∙◌}
-use mathlib.Core.Bool.{false}
-use native.Mathlib.Omega.{arith}
-use lib.ListN.{drop}
-use Rattle.fields.proofs.Fields.{FieldIs, field_is, field_broken, field_end}
-use Rattle.extend_lines.proofs.Copying.{content_short}
-use Rattle.append_subrender.proofs.Telling.{looked_start, looked_on, lines_zero, lines_none, lines_broken, lines_found}
+-- Assumes nothing.
+use Rattle.std.proofs.Common.{ap, ◌∙◌}
+use Rattle.fields.specs.Field.{raws}
+use Rattle.fields.specs.List.{left}
+use Rattle.append_subrender.proofs.Telling.{looked_start, looked_on, looked_broken, looked_found, looked_end}
 use Rattle.append_subrender.proofs.misfit.lines_misfit.Goals as goal
 
-pub loop-left-init : goal.loop-left-init
-loop-left-init c =
-    looked_start _ _
-
-pub slice_bounds-line_misfit-count : goal.slice_bounds-line_misfit-count
-slice_bounds-line_misfit-count c =
-    let found : FieldIs c.args.body.now c.loop-left.at c.in-At.letter c.in-At.start c.in-At.next = field_is _ _ _ _ _ c.loop-left.invariant.inside (sym c.field_at-f.ensures.value ∙ c.in-At.is) in
-    (found).order
-
-pub slice_bounds-line_misfit-start : goal.slice_bounds-line_misfit-start
-slice_bounds-line_misfit-start c =
-    let found : FieldIs c.args.body.now c.loop-left.at c.in-At.letter c.in-At.start c.in-At.next = field_is _ _ _ _ _ c.loop-left.invariant.inside (sym c.field_at-f.ensures.value ∙ c.in-At.is) in
-    let r = found in omega (arith, r.order, r.inside)
-
-pub slice_bounds-line_misfit-end : goal.slice_bounds-line_misfit-end
-slice_bounds-line_misfit-end c =
-    let found : FieldIs c.args.body.now c.loop-left.at c.in-At.letter c.in-At.start c.in-At.next = field_is _ _ _ _ _ c.loop-left.invariant.inside (sym c.field_at-f.ensures.value ∙ c.in-At.is) in
-    let r = found in omega (arith, r.order, r.inside)
-
-pub line_misfit-requires : goal.line_misfit-requires
-line_misfit-requires c =
-    let found : FieldIs c.args.body.now c.loop-left.at c.in-At.letter c.in-At.start c.in-At.next = field_is _ _ _ _ _ c.loop-left.invariant.inside (sym c.field_at-f.ensures.value ∙ c.in-At.is) in
-    content_short _ _ _ _ _ _ (found) c.in-At.is c.field_at-f.ensures.short
+pub loop-field-init : goal.loop-field-init
+loop-field-init c =
+    rw c.into_iter-field-iterator.ensures.into_iter_gives
+    (looked_start _ _ _ _ c.take-field-items.ensures.count (ap left c.take-field-items.ensures.source ∙ ap raws c.new.ensures))
 
 pub returns-then-line_misfit : goal.returns-then-line_misfit
 returns-then-line_misfit c =
-    let found : FieldIs c.args.body.now c.loop-left.at c.in-At.letter c.in-At.start c.in-At.next = field_is _ _ _ _ _ c.loop-left.invariant.inside (sym c.field_at-f.ensures.value ∙ c.in-At.is) in
-    c.loop-left.invariant.rest _ (lines_found _ _ _ _ _ c.loop-left-test.true (found).fields _ c.if-line_misfit.true c.line_misfit.ensures)
+    let next = rw c.in-Ok.is at c.in-Some.ensures.steps.0 in
+    looked_found _ _ _ _ c.loop-field.invariant _ _ _ _ next c.in-Some.ensures.steps.1 c.if-line_misfit.true c.line_misfit.ensures
 
-pub loop-left-preserved : goal.loop-left-preserved
-loop-left-preserved c =
-    let found : FieldIs c.args.body.now c.loop-left.at c.in-At.letter c.in-At.start c.in-At.next = field_is _ _ _ _ _ c.loop-left.invariant.inside (sym c.field_at-f.ensures.value ∙ c.in-At.is) in
-    looked_on _ _ _ _ _ _ _ c.loop-left.invariant c.loop-left-test.true (found) _ c.if-line_misfit.false c.line_misfit.ensures
+pub loop-field-preserved : goal.loop-field-preserved
+loop-field-preserved c =
+    let next = rw c.in_default.is at c.in-Some.ensures.steps.0 in
+    looked_broken _ _ _ _ c.loop-field.invariant _ _ next
 
-pub returns-in-Broken : goal.returns-in-Broken
-returns-in-Broken c =
-    let is = field_broken _ _ (sym c.field_at-f.ensures.value ∙ c.in-Broken.is) in
-    c.loop-left.invariant.rest _ (lines_broken _ c.loop-left.left _ is)
-
-pub returns-in-End : goal.returns-in-End
-returns-in-End c =
-    let is = field_end _ _ (sym c.field_at-f.ensures.value ∙ c.in-End.is) in
-    c.loop-left.invariant.rest _ (lines_none _ c.loop-left.left is)
+pub loop-field-preserved-else-line_misfit : goal.loop-field-preserved-else-line_misfit
+loop-field-preserved-else-line_misfit c =
+    let next = rw c.in-Ok.is at c.in-Some.ensures.steps.0 in
+    looked_on _ _ _ _ c.loop-field.invariant _ _ _ _ next c.in-Some.ensures.steps.1 c.if-line_misfit.false c.line_misfit.ensures
 
 pub returns : goal.returns
 returns c =
-    c.loop-left.invariant.rest false (lines_zero (drop c.loop-left.at c.args.body.now) c.loop-left.left (omega (arith, c.loop-left-test.false)))
+    looked_end _ _ _ _ c.loop-field.invariant (λ some. (c.in-None.ensures.steps some).0)

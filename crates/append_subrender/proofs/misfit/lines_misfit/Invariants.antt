@@ -1,10 +1,9 @@
 -- `misfit::lines_misfit` meets its contract: the lines passed do not overlap, and those left tell.
 -- Assumes nothing.
+use Rattle.std.specs.Iterator.Adapters.{take_count, take_source}
+use Rattle.fields.specs.List.{left}
 use Rattle.append_subrender.proofs.Telling.{Looked}
 use Rattle.append_subrender.proofs.misfit.lines_misfit.Given as goal
 
-abbrev pub invariant-loop-left : goal.invariant-loop-left
-invariant-loop-left l = Looked l.body l.most l.left l.at
-
-abbrev pub decreases-loop-left : goal.decreases-loop-left
-decreases-loop-left l = l.left
+abbrev pub invariant-loop-field : goal.invariant-loop-field
+invariant-loop-field l = Looked l.body l.most (take_count l.field-iterator) (left (take_source l.field-iterator))
