@@ -49,6 +49,7 @@ pub fn add_text(
         ann: first_annotation(run, st.wrapped),
     };
     let mut at: usize = 0;
+    // A turn passes a run and a character, of any number of bytes: no iterator of the library goes so.
     loop {
         let past = add_plain(frame, run, cur, &text[at..], wb, wt);
         cur = past.w;

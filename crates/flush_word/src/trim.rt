@@ -24,6 +24,7 @@ pub fn white_front(wb: &[u8], wt: &[u32]) -> usize
     ensures trims_front { TrimsFront wb.now wt.now result }
 {
     let mut i: usize = 0;
+    // A turn passes a character, of any number of bytes: no iterator of the library goes so.
     while i < wt.len() {
         if MARK <= wt[i] {
             return i;

@@ -48,6 +48,7 @@ pub fn width_of(part: &[u8]) -> usize
 {
     let mut i = 0;
     let mut used = 0;
+    // A turn passes a run and a character, of any number of bytes: no iterator of the library goes so.
     loop {
         let run = plain_run(&part[i..], true);
         used += run.cols;

@@ -110,6 +110,7 @@ pub fn wrap_piece(
     let mut cur = st;
     let mut wpos = 0;
     let mut bpos = 0;
+    // A turn is a line; the walk over its characters is left where the first does not fit.
     while bpos < piece.len() && wpos + (frame.width - cur.cols) < w {
         let rest = &piece[bpos..];
         let left = frame.width - cur.cols;

@@ -24,6 +24,7 @@ pub fn hard_wrap(
 {
     let mut cur = st;
     let mut at = 0;
+    // A turn takes a piece of any number of entries: no iterator of the library goes so.
     while at < wt.len() {
         let tag = wt[at];
         let end = run_end(wt, at);

@@ -63,6 +63,7 @@ pub fn put_pieces(out: &mut [u8], at: usize, bytes: &[u8], tags: &[u32]) -> usiz
 {
     let mut i = 0;
     let mut k = at;
+    // A turn takes a piece of any number of entries: no iterator of the library goes so.
     while i < tags.len() {
         let j = run_end(tags, i);
         k = put_piece(out, k, &bytes[i..j], tags[i]);
