@@ -13,10 +13,9 @@ use Rattle.std.specs.Prelude.{Result, Ok, Err, IsErr}
 use Rattle.std.proofs.lemmas.Result.{MatchResult-from_err}
 use Rattle.characters.specs.Utf8.{chars}
 use Rattle.characters.proofs.Tests.{by_if, and_left, and_right}
-use Rattle.fields.specs.Field.{whole, broken, raws}
+use Rattle.fields.specs.Field.{Raw, whole, broken, raws}
 use Rattle.fields.specs.Text.{holds, allowed_in, readable_text}
 use Rattle.fields.specs.Job.{JobField, Mode, normal, pre, pre_wrap, text, wrong, read_text, read_field, readable, all_readable, units, field_units, body_units}
-use Rattle.fields.proofs.Fields.{FieldIs}
 use Rattle.fields.proofs.Jobs.{text_units, name_read, text_field, short_read, mode_read}
 use Rattle.fields.proofs.Texts.{rest}
 use Rattle.block.specs.Flat.{Block, flat_add_element, flat_add_field, flat_add_fields}
@@ -86,20 +85,20 @@ text_bytes_lem l s e h m = ap length (rest s 3) ∙ length-drop 3 s ∙ text_uni
 
 module _ (frame : Frame) (st : State) (l : ℕ) (s lb lt wb wt out : List ℕ) where
   -- A name.
-  pub adds_name : (r : State) (wb' wt' : List ℕ) → l ≡ 0x46 → AddsElement st s wb wt r wb' wt' → AddsField frame st l s lb lt wb wt out (Ok r) lb lt wb' wt' out
+  pub adds_name : (r : State) (wb' wt' : List ℕ) → l ≡ 0x46 → AddsElement st s wb wt r wb' wt' → AddsField frame st (whole l s) lb lt wb wt out (Ok r) lb lt wb' wt' out
   unfolding flat_add_field
   adds_name r wb' wt' e a d₀ base b k read =
       rw (name_read l s e) (record { block = flat_add_element s b; is = refl; keeps = a d₀ base b lb lt out k })
 
   -- What is neither changes nothing.
-  pub adds_nothing : read_field (whole l s) ≡ wrong → AddsField frame st l s lb lt wb wt out (Ok st) lb lt wb wt out
+  pub adds_nothing : read_field (whole l s) ≡ wrong → AddsField frame st (whole l s) lb lt wb wt out (Ok st) lb lt wb wt out
   unfolding flat_add_field
   adds_nothing e d₀ base b k read = rw e (record { block = b; is = refl; keeps = k })
 
   -- A text.
   pub adds_text : (run : Run) (r : Result State TooNarrow) (lb' lt' wb' wt' out' : List ℕ) → l ≡ 0x54 → 3 ≤ length s → get_or s 0 0 ≤ 2
       → run ≡ run_of (get_or s 0 0) (get_or s 1 0) (get_or s 2 0) → AddsText frame run st (take (length s - 3) (drop 3 s)) lb lt wb wt out r lb' lt' wb' wt' out'
-      → AddsField frame st l s lb lt wb wt out r lb' lt' wb' wt' out'
+      → AddsField frame st (whole l s) lb lt wb wt out r lb' lt' wb' wt' out'
   unfolding flat_add_field
   adds_text run r lb' lt' wb' wt' out' e h m q a d₀ base b k read =
       let t = text_read s h m in
@@ -110,36 +109,42 @@ module _ (frame : Frame) (st : State) (l : ℕ) (s lb lt wb wt out : List ℕ) w
 
 -- ---- all fields
 
--- the content of a field, as the code lends it
-abbrev pub content_of : List ℕ → ℕ → ℕ → List ℕ
-content_of body start next = take (next - start) (drop start body)
-
 -- what is left of the fields gives what all of them give
-pub record Left (frame : Frame) (body : List ℕ) (at : ℕ) (d₀ : List ℕ) (base : ℕ) (b : Block) (cur : State) (lb lt wb wt out : List ℕ) : Type 0 where
+pub record Left (frame : Frame) (body : List ℕ) (left : List Raw) (d₀ : List ℕ) (base : ℕ) (b : Block) (next : State) (lb lt wb wt out : List ℕ) : Type 0 where
   pub block : Block
-  pub keeps : Keeps d₀ base block cur lb lt wb wt out
-  pub read : all_readable (map read_field (raws (drop at body))) ≡ true
-  pub same : flat_add_fields (setup frame) (map read_field (raws body)) b ≡ flat_add_fields (setup frame) (map read_field (raws (drop at body))) block
+  pub keeps : Keeps d₀ base block next lb lt wb wt out
+  pub read : all_readable (map read_field left) ≡ true
+  pub same : flat_add_fields (setup frame) (map read_field (raws body)) b ≡ flat_add_fields (setup frame) (map read_field left) block
 
--- the fields before a place are added
-pub record Added (frame : Frame) (st : State) (body lb₀ lt₀ wb₀ wt₀ out₀ : List ℕ) (cur : State) (at : ℕ) (lb lt wb wt out : List ℕ) : Type 0 where
-  pub inside : at ≤ length body
-  pub small : CountsWithinUnits frame cur
-  pub units : cur.used + body_units (raws (drop at body)) ≤ st.used + body_units (raws body)
+-- the fields before those that are left are added
+pub record Added (frame : Frame) (st : State) (body lb₀ lt₀ wb₀ wt₀ out₀ : List ℕ) (next : State) (lb lt wb wt out : List ℕ) (left : List Raw) : Type 0 where
+  pub small : CountsWithinUnits frame next
+  pub units : next.used + body_units left ≤ st.used + body_units (raws body)
   pub lb_is : length lb ≡ length lb₀
   pub lt_is : length lt ≡ length lt₀
   pub wb_is : length wb ≡ length wb₀
   pub wt_is : length wt ≡ length wt₀
   pub out_is : length out ≡ length out₀
-  pub left : (d₀ : List ℕ) (base : ℕ) (b : Block) → Keeps d₀ base b st lb₀ lt₀ wb₀ wt₀ out₀ → all_readable (map read_field (raws body)) ≡ true
-      → Left frame body at d₀ base b cur lb lt wb wt out
+  pub same : (d₀ : List ℕ) (base : ℕ) (b : Block) → Keeps d₀ base b st lb₀ lt₀ wb₀ wt₀ out₀ → all_readable (map read_field (raws body)) ≡ true
+      → Left frame body left d₀ base b next lb lt wb wt out
+
+-- The units of a field and of those after it.
+pub units_next : (field : Raw) (rest : List Raw) → field_units field + body_units rest ≡ body_units (field ∷ rest)
+unfolding body_units units field_units
+units_next field rest = refl
+
+-- a field and those after it are readable
+both_read : (field : Raw) (rest : List Raw) → all_readable (map read_field (field ∷ rest)) ≡ true
+    → (readable (read_field field) ≡ true) × (all_readable (map read_field rest) ≡ true)
+unfolding all_readable
+both_read field rest h =
+    (and_left (readable (read_field field)) (all_readable (map read_field rest)) h, and_right (readable (read_field field)) (all_readable (map read_field rest)) h)
 
 module _ (frame : Frame) (st : State) (body lb₀ lt₀ wb₀ wt₀ out₀ : List ℕ) where
   -- No field yet.
-  pub added_start : CountsWithinUnits frame st → Added frame st body lb₀ lt₀ wb₀ wt₀ out₀ st 0 lb₀ lt₀ wb₀ wt₀ out₀
-  added_start s =
-      record {
-        inside = omega arith;
+  pub added_start : (left : List Raw) → CountsWithinUnits frame st → left ≡ raws body → Added frame st body lb₀ lt₀ wb₀ wt₀ out₀ st lb₀ lt₀ wb₀ wt₀ out₀ left
+  added_start left s e =
+      rw e (record {
         small = s;
         units = omega arith;
         lb_is = refl;
@@ -147,67 +152,71 @@ module _ (frame : Frame) (st : State) (body lb₀ lt₀ wb₀ wt₀ out₀ : Lis
         wb_is = refl;
         wt_is = refl;
         out_is = refl;
-        left = λ d₀ base b k read. record { block = b; keeps = k; read = read; same = refl };
-      }
+        same = λ d₀ base b k read. record { block = b; keeps = k; read = read; same = refl };
+      })
 
-  module _ (cur : State) (at : ℕ) (lb lt wb wt out : List ℕ) (a : Added frame st body lb₀ lt₀ wb₀ wt₀ out₀ cur at lb lt wb wt out) where
-    -- At the end of the fields, or at a rest that is no field, all are added.
-    pub added_end : raws (drop at body) ≡ [] → AddsFields frame st body lb₀ lt₀ wb₀ wt₀ out₀ (Ok cur) lb lt wb wt out
+  module _ (next : State) (lb lt wb wt out : List ℕ) (left : List Raw) (a : Added frame st body lb₀ lt₀ wb₀ wt₀ out₀ next lb lt wb wt out left) where
+    -- No field is left: all are added.
+    pub added_end : left ≡ [] → AddsFields frame st body lb₀ lt₀ wb₀ wt₀ out₀ (Ok next) lb lt wb wt out
     unfolding flat_add_fields
     added_end e d₀ base b k read =
-        let g = a.left d₀ base b k read in
+        let g = a.same d₀ base b k read in
         record { block = g.block; is = g.same ∙ rw e; keeps = g.keeps }
 
-    pub added_broken : raws (drop at body) ≡ broken ∷ [] → AddsFields frame st body lb₀ lt₀ wb₀ wt₀ out₀ (Ok cur) lb lt wb wt out
+    -- A rest that is no field adds nothing.
+    pub added_broken : (rest : List Raw) → left ≡ broken ∷ rest → Added frame st body lb₀ lt₀ wb₀ wt₀ out₀ next lb lt wb wt out rest
     unfolding flat_add_fields flat_add_field read_field
-    added_broken e d₀ base b k read =
-        let g = a.left d₀ base b k read in
-        record { block = g.block; is = g.same ∙ rw e; keeps = g.keeps }
+    added_broken rest e =
+        let u = units_next broken rest in
+        let w = rw e at a.units in
+        record {
+          small = a.small;
+          units = omega (arith, u, w);
+          lb_is = a.lb_is;
+          lt_is = a.lt_is;
+          wb_is = a.wb_is;
+          wt_is = a.wt_is;
+          out_is = a.out_is;
+          same = λ d₀ base b k read.
+              let g = a.same d₀ base b k read in
+              record { block = g.block; keeps = g.keeps; read = (both_read broken rest (rw e at g.read)).1; same = g.same ∙ rw e };
+        }
 
-    module _ (letter start next : ℕ) (f : FieldIs body at letter start next) where
-      -- The units of the field at the place, and of those after it.
-      pub units_next : field_units (whole letter (content_of body start next)) + body_units (raws (drop next body)) ≡ body_units (raws (drop at body))
-      unfolding body_units units field_units
-      units_next = rw f.fields
-
-      -- that field and those after it are readable
-      both_read : all_readable (map read_field (raws (drop at body))) ≡ true
-          → (readable (read_field (whole letter (content_of body start next))) ≡ true) × (all_readable (map read_field (raws (drop next body))) ≡ true)
-      unfolding all_readable
-      both_read h =
-          let x = readable (read_field (whole letter (content_of body start next))) in
-          let y = all_readable (map read_field (raws (drop next body))) in
-          let e = rw f.fields at h in
-          (and_left x y e, and_right x y e)
+    module _ (field : Raw) (rest : List Raw) (e : left ≡ field ∷ rest) where
+      -- The units of the next field are within those of all.
+      pub units_left : next.used + field_units field + body_units rest ≤ st.used + body_units (raws body)
+      units_left =
+          let u = units_next field rest in
+          let w = rw e at a.units in
+          omega (arith, u, w)
 
       -- One field more.
       pub added_on : (more : State) (lb' lt' wb' wt' out' : List ℕ)
           → (length lb' ≡ length lb₀) × (length lt' ≡ length lt₀) × (length wb' ≡ length wb₀) × (length wt' ≡ length wt₀) × (length out' ≡ length out₀)
-          → CountsWithinUnits frame more × (more.used ≤ cur.used + field_units (whole letter (content_of body start next)))
-          → AddsField frame cur letter (content_of body start next) lb lt wb wt out (Ok more) lb' lt' wb' wt' out'
-          → Added frame st body lb₀ lt₀ wb₀ wt₀ out₀ more next lb' lt' wb' wt' out'
+          → CountsWithinUnits frame more × (more.used ≤ next.used + field_units field)
+          → AddsField frame next field lb lt wb wt out (Ok more) lb' lt' wb' wt' out'
+          → Added frame st body lb₀ lt₀ wb₀ wt₀ out₀ more lb' lt' wb' wt' out' rest
       unfolding flat_add_fields
       added_on more lb' lt' wb' wt' out' n s w =
           record {
-            inside = f.inside;
             small = s.0;
-            units = omega (arith, units_next, a.units, s.1);
+            units = omega (arith, units_left, s.1);
             lb_is = n.0;
             lt_is = n.1;
             wb_is = n.2;
             wt_is = n.3;
             out_is = n.4;
-            left = λ d₀ base b k read.
-                let g = a.left d₀ base b k read in
-                let (now, later) = both_read g.read in
+            same = λ d₀ base b k read.
+                let g = a.same d₀ base b k read in
+                let (now, later) = both_read field rest (rw e at g.read) in
                 let x = w d₀ base g.block g.keeps now in
-                record { block = x.block; keeps = x.keeps; read = later; same = g.same ∙ rw (f.fields, x.is) };
+                record { block = x.block; keeps = x.keeps; read = later; same = g.same ∙ rw (e, x.is) };
           }
 
       -- A field that does not fit.
-      pub added_narrow : (n : TooNarrow) (r : Result State TooNarrow) (lb' lt' wb' wt' out' : List ℕ) → AddsField frame cur letter (content_of body start next) lb lt wb wt out (Err n) lb lt wb wt out → IsErr r
+      pub added_narrow : (n : TooNarrow) (r : Result State TooNarrow) (lb' lt' wb' wt' out' : List ℕ) → AddsField frame next field lb lt wb wt out (Err n) lb lt wb wt out → IsErr r
           → AddsFields frame st body lb₀ lt₀ wb₀ wt₀ out₀ r lb' lt' wb' wt' out'
       unfolding flat_add_fields
       added_narrow n r lb' lt' wb' wt' out' w h d₀ base b k read =
-          let g = a.left d₀ base b k read in
-          MatchResult-from_err r _ _ h (λ _. g.same ∙ rw (f.fields, w d₀ base g.block g.keeps (both_read g.read).0))
+          let g = a.same d₀ base b k read in
+          MatchResult-from_err r _ _ h (λ _. g.same ∙ rw (e, w d₀ base g.block g.keeps (both_read field rest (rw e at g.read)).0))

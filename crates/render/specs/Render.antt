@@ -1,7 +1,7 @@
 -- The steps of the call from a job to its sheet: a field, the fields, and the block's lines in the store with the names that wait.
 -- Assumes nothing: these are definitions.
 use Rattle.std.specs.Prelude.{◌≡◌, false, true, List, [], map, ℕ, ◌<◌, Result, MatchResult}
-use Rattle.fields.specs.Field.{whole, raws}
+use Rattle.fields.specs.Field.{Raw, raws}
 use Rattle.fields.specs.Job.{read_field, readable, all_readable}
 use Rattle.fields.specs.Answer.{Stands}
 use Rattle.fields.specs.declared.job.Setup.{Setup}
@@ -25,10 +25,10 @@ run_of m a c = record { mode = m; main = a; wrap = c }
 
 -- ---- fields
 
-abbrev pub AddsField : Frame → State → ℕ → List ℕ → List ℕ → List ℕ → List ℕ → List ℕ → List ℕ → Result State TooNarrow → List ℕ → List ℕ → List ℕ → List ℕ → List ℕ → Type 0
-AddsField frame st letter content lb lt wb wt out r lb' lt' wb' wt' out' =
-    (d₀ : List ℕ) (base : ℕ) (b : Block) → Keeps d₀ base b st lb lt wb wt out → readable (read_field (whole letter content)) ≡ true
-    → ResultIs (flat_add_field (setup frame) (read_field (whole letter content)) b) d₀ base r lb' lt' wb' wt' out'
+abbrev pub AddsField : Frame → State → Raw → List ℕ → List ℕ → List ℕ → List ℕ → List ℕ → Result State TooNarrow → List ℕ → List ℕ → List ℕ → List ℕ → List ℕ → Type 0
+AddsField frame st field lb lt wb wt out r lb' lt' wb' wt' out' =
+    (d₀ : List ℕ) (base : ℕ) (b : Block) → Keeps d₀ base b st lb lt wb wt out → readable (read_field field) ≡ true
+    → ResultIs (flat_add_field (setup frame) (read_field field) b) d₀ base r lb' lt' wb' wt' out'
 
 abbrev pub AddsFields : Frame → State → List ℕ → List ℕ → List ℕ → List ℕ → List ℕ → List ℕ → Result State TooNarrow → List ℕ → List ℕ → List ℕ → List ℕ → List ℕ → Type 0
 AddsFields frame st body lb lt wb wt out r lb' lt' wb' wt' out' =

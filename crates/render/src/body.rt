@@ -2,13 +2,16 @@
 ghost use Rattle.std.specs.Prelude.{◌≡◌, ◌+◌, ◌≤◌, length};
 ghost use Rattle.fields.specs.Field.{whole, raws};
 ghost use Rattle.fields.specs.Job.{field_units, body_units};
+ghost use Rattle.fields.specs.List.{whole_of};
 ghost use Rattle.flush_word.specs.Keep.{CountsWithinUnits, BuffersLongEnough};
 ghost use Rattle.add_text.specs.Walks.{TextSmall};
 ghost use Rattle.render.specs.Render.{run_of, AddsField, AddsFields};
 
 use add_chars::chars::add_element;
 use add_text::text::{Run, add_text};
-use fields::field::{Field, field_at};
+use fields::judge::LAST_MODE;
+use fields::list::Fields;
+use fields::raw::Field;
 use flush_word::state::State;
 use hard_wrap::error::TooNarrow;
 use hard_wrap::line::Frame;
@@ -24,11 +27,10 @@ fn run_of(mode: u8, main: u8, wrap: u8) -> Run
     }
 }
 
-// A T field's text or an F field's name; what is neither changes nothing.
-fn add_field(
+// The text of a T field, whose content is a mode, two annotations and the text.
+fn add_run(
     frame: Frame,
     st: State,
-    letter: u8,
     content: &[u8],
     lb: &mut [u8],
     lt: &mut [u32],
@@ -37,26 +39,44 @@ fn add_field(
     out: &mut [u8],
 ) -> Result<State, TooNarrow>
     requires counts_within_units { CountsWithinUnits frame st × BuffersLongEnough frame (length lb.old) (length lt.old) (length wb.old) (length wt.old) }
-    requires content_bound { st.used + field_units (whole letter content.now) ≤ 4096 }
-    ensures text_small { TextSmall frame (st.used + field_units (whole letter content.now)) result }
-    ensures adds_field { AddsField frame st letter content.now
+    requires content_bound { st.used + field_units (whole 0x54 content.now) ≤ 4096 }
+    ensures text_small { TextSmall frame (st.used + field_units (whole 0x54 content.now)) result }
+    ensures adds_field { AddsField frame st (whole 0x54 content.now)
         lb.old lt.old wb.old wt.old out.old result
         lb.new lt.new wb.new wt.new out.new }
 {
-    if letter == 0x46 {
-        return Ok(add_element(frame, st, wb, wt, content));
+    match content {
+        [mode, main, wrap, text @ ..] if *mode <= LAST_MODE => {
+            let run = run_of(*mode, *main, *wrap);
+            add_text(frame, run, st, text, lb, lt, wb, wt, out)
+        }
+        _ => Ok(st),
     }
-    if letter != 0x54 {
-        return Ok(st);
+}
+
+// A T field's text or an F field's name; what is neither changes nothing.
+fn add_field(
+    frame: Frame,
+    st: State,
+    field: Field<'_>,
+    lb: &mut [u8],
+    lt: &mut [u32],
+    wb: &mut [u8],
+    wt: &mut [u32],
+    out: &mut [u8],
+) -> Result<State, TooNarrow>
+    requires counts_within_units { CountsWithinUnits frame st × BuffersLongEnough frame (length lb.old) (length lt.old) (length wb.old) (length wt.old) }
+    requires content_bound { st.used + field_units (whole_of field) ≤ 4096 }
+    ensures text_small { TextSmall frame (st.used + field_units (whole_of field.entry)) result }
+    ensures adds_field { AddsField frame st (whole_of field.entry)
+        lb.old lt.old wb.old wt.old out.old result
+        lb.new lt.new wb.new wt.new out.new }
+{
+    match field.letter {
+        b'F' => Ok(add_element(frame, st, wb, wt, field.content)),
+        b'T' => add_run(frame, st, field.content, lb, lt, wb, wt, out),
+        _ => Ok(st),
     }
-    if content.len() < 3 {
-        return Ok(st);
-    }
-    if 2 < content[0] {
-        return Ok(st);
-    }
-    let run = run_of(content[0], content[1], content[2]);
-    add_text(frame, run, st, &content[3..], lb, lt, wb, wt, out)
 }
 
 // All fields, one after the other.
@@ -77,25 +97,11 @@ pub fn add_fields(
         lb.old lt.old wb.old wt.old out.old result
         lb.new lt.new wb.new wt.new out.new }
 {
-    let mut cur = st;
-    let mut at: usize = 0;
-    loop {
-        let f = field_at(body, at);
-        match f {
-            Field::At {
-                letter,
-                start,
-                next,
-            } => {
-                cur = add_field(frame, cur, letter, &body[start..next], lb, lt, wb, wt, out)?;
-                at = next;
-            }
-            Field::Broken => {
-                return Ok(cur);
-            }
-            Field::End => {
-                return Ok(cur);
-            }
+    let mut next = st;
+    for field in Fields::new(body) {
+        if let Ok(field) = field {
+            next = add_field(frame, next, field, lb, lt, wb, wt, out)?;
         }
     }
+    Ok(next)
 }

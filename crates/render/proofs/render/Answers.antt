@@ -1,6 +1,6 @@
 -- `render::render` meets its contract: a refusal 1 to 4, the sheet or refusal 8, and refusal 5.
 -- Assumes nothing.
-use Rattle.std.proofs.Common.{◌≡◌, ℕ, ◌<◌, ◌≤◌, refl, sym, ap, ◌∙◌, arith}
+use Rattle.std.proofs.Common.{refl, sym, ◌∙◌, arith}
 use Rattle.fields.proofs.Finishing.{refuses, refuses_check}
 use Rattle.fields.proofs.First.{is_some}
 use Rattle.fields.specs.declared.refusal.Refusal.TheVariants.{TooNarrow}
