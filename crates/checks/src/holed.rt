@@ -29,7 +29,7 @@ fn check_hole(segments: usize, place: usize, field: Field<'_>) -> Result<(), Ref
     requires { place < 65536 }
     ensures { number_of result ≡ hole_refusal segments (punched place (whole_of field.entry)) }
 {
-    check_piece(field)?;
+    check_piece(field.letter, field.content)?;
     if field.letter == b'F' {
         return check_end(segments, place);
     }

@@ -17,7 +17,10 @@ fn check_line(field: Field<'_>) -> Result<(), Refusal>
     ensures { number_of result ≡ line_refusal (whole_of field.entry) }
 {
     match field.letter {
-        b'L' => check_fields(field.content, check_piece),
+        b'L' => check_fields(
+            field.content,
+            |piece| check_piece(piece.letter, piece.content),
+        ),
         b'B' => check_border(field.content),
         b'G' => check_holed(field),
         _ => Err(Refusal::CrookedRecord),
@@ -35,5 +38,5 @@ pub fn check_lines(lines: &[u8]) -> Result<(), Refusal>
 pub fn check_names(names: &[u8]) -> Result<(), Refusal>
     ensures { number_of result ≡ names_refusal (raws names.now) }
 {
-    check_fields(names, check_name)
+    check_fields(names, |name| check_name(name.letter, name.content))
 }

@@ -1,14 +1,12 @@
 // A field judged by itself: its letter, its lengths, its segments and its text (refusals 1 and 3).
 ghost use Rattle.std.specs.Prelude.{◌≡◌};
 ghost use Rattle.fields.specs.Field.{whole, all};
-ghost use Rattle.fields.specs.List.{whole_of};
 ghost use Rattle.fields.specs.Refusal.{number_of};
 ghost use Rattle.fields.specs.Refusals.{width_refusal};
 ghost use Rattle.fields.specs.Sheet.{is_segment};
 ghost use Rattle.fields.specs.SpanRefusals.{line_refusal};
 ghost use Rattle.fields.specs.Walk.{field_refusal, piece_refusal, prefix_refusal, name_refusal};
 
-use crate::raw::Field;
 use crate::refusal::Refusal;
 use crate::text::check_text;
 
@@ -26,12 +24,12 @@ fn check_run(content: &[u8]) -> Result<(), Refusal>
 }
 
 // A field of a job: a T field, or an F field, which is a name.
-pub fn check_job_field(field: Field<'_>) -> Result<(), Refusal>
-    ensures { number_of result ≡ field_refusal (whole_of field.entry) }
+pub fn check_job_field(letter: u8, content: &[u8]) -> Result<(), Refusal>
+    ensures { number_of result ≡ field_refusal (whole letter content.now) }
 {
-    match field.letter {
-        b'F' => check_text(field.content, false),
-        b'T' => check_run(field.content),
+    match letter {
+        b'F' => check_text(content, false),
+        b'T' => check_run(content),
         _ => Err(Refusal::CrookedRecord),
     }
 }
@@ -47,12 +45,12 @@ fn check_string(content: &[u8]) -> Result<(), Refusal>
 }
 
 // A piece of a line: an S field, or an F field, which is a name.
-pub fn check_piece(field: Field<'_>) -> Result<(), Refusal>
-    ensures { number_of result ≡ piece_refusal (whole_of field.entry) }
+pub fn check_piece(letter: u8, content: &[u8]) -> Result<(), Refusal>
+    ensures { number_of result ≡ piece_refusal (whole letter content.now) }
 {
-    match field.letter {
-        b'F' => check_text(field.content, false),
-        b'S' => check_string(field.content),
+    match letter {
+        b'F' => check_text(content, false),
+        b'S' => check_string(content),
         _ => Err(Refusal::CrookedRecord),
     }
 }
@@ -80,13 +78,13 @@ pub fn check_border(content: &[u8]) -> Result<(), Refusal>
 }
 
 // A P field is text, perhaps empty.
-pub fn check_prefix(field: Field<'_>) -> Result<(), Refusal>
-    ensures { number_of result ≡ prefix_refusal (whole_of field.entry) }
+pub fn check_prefix(letter: u8, content: &[u8]) -> Result<(), Refusal>
+    ensures { number_of result ≡ prefix_refusal (whole letter content.now) }
 {
-    if field.letter != b'P' {
+    if letter != b'P' {
         return Err(Refusal::CrookedRecord);
     }
-    check_text(field.content, false)
+    check_text(content, false)
 }
 
 // A width, of a block or of a sheet, is not 0 (refusal 2).
@@ -100,11 +98,11 @@ pub fn check_width(width: u8) -> Result<(), Refusal>
 }
 
 // An F field after a sheet's last line is a name, perhaps empty.
-pub fn check_name(field: Field<'_>) -> Result<(), Refusal>
-    ensures { number_of result ≡ name_refusal (whole_of field.entry) }
+pub fn check_name(letter: u8, content: &[u8]) -> Result<(), Refusal>
+    ensures { number_of result ≡ name_refusal (whole letter content.now) }
 {
-    if field.letter != b'F' {
+    if letter != b'F' {
         return Err(Refusal::CrookedRecord);
     }
-    check_text(field.content, false)
+    check_text(content, false)
 }

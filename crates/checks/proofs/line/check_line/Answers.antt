@@ -1,5 +1,6 @@
 -- `checks::line::check_line` meets its contract, letter by letter.
 -- Assumes nothing.
+use borrow.Author.Rules.{rules}
 use Rattle.std.proofs.Common.{◌∙◌}
 use Rattle.fields.specs.Walk.{piece_refusal}
 use Rattle.fields.proofs.Sheets.{piece_crooked}
@@ -8,4 +9,4 @@ use Rattle.checks.proofs.line.check_line.Goals as goal
 
 pub returns-in-76 : goal.returns-in-76
 returns-in-76 c =
-    c.check_fields.ensures piece_refusal (record { answers = λ f r p. p.1; crooked = piece_crooked }) ∙ text_line _ _ c.in-76.is
+    c.check_fields.ensures piece_refusal (record { answers = λ f r p. search rules; crooked = piece_crooked }) ∙ text_line _ _ c.in-76.is

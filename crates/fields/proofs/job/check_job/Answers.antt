@@ -1,5 +1,6 @@
 -- `fields::job::check_job` meets its contract: refusals 1 to 4 in their order, over the fields from the seventh byte on.
 -- Assumes nothing.
+use borrow.Author.Rules.{rules}
 use Rattle.std.proofs.Common.{arith, sym, ap, ap₂, ◌∙◌, refl}
 use Rattle.fields.specs.First.{first_of}
 use Rattle.fields.specs.Job.{head_in}
@@ -23,19 +24,19 @@ slice_bounds-body-start c =
 
 pub returns-in_err-first_of-clause-number : goal.returns-in_err-first_of-clause-number
 returns-in_err-first_of-clause-number c =
-    let judged = c.check_fields.ensures field_refusal (record { answers = λ f r p. p.1; crooked = field_crooked }) in
+    let judged = c.check_fields.ensures field_refusal (record { answers = λ f r p. search rules; crooked = field_crooked }) in
     let first = c.in_err-first_of.ensures ∙ ap₂ first_of judged c.check_width.ensures in
     handed_on _ _ c.from_residual-in_err-first_of.ensures
     ∙ job_refused _ _ (sym c.read_head.ensures ∙ ap head_in c.in_ok-setup.ensures.ok_part) _ first (is_some _)
 
 pub returns-then-body_units-gt4096-clause-number : goal.returns-then-body_units-gt4096-clause-number
 returns-then-body_units-gt4096-clause-number c =
-    let judged = c.check_fields.ensures field_refusal (record { answers = λ f r p. p.1; crooked = field_crooked }) in
+    let judged = c.check_fields.ensures field_refusal (record { answers = λ f r p. search rules; crooked = field_crooked }) in
     let first = c.in_ok-first_of.ensures ∙ ap₂ first_of judged c.check_width.ensures in
     job_overfull _ _ (sym c.read_head.ensures ∙ ap head_in c.in_ok-setup.ensures.ok_part) _ first refl (omega (arith, c.body_units.ensures, c.if-body_units-gt4096.true))
 
 pub returns-clause-number : goal.returns-clause-number
 returns-clause-number c =
-    let judged = c.check_fields.ensures field_refusal (record { answers = λ f r p. p.1; crooked = field_crooked }) in
+    let judged = c.check_fields.ensures field_refusal (record { answers = λ f r p. search rules; crooked = field_crooked }) in
     let first = c.in_ok-first_of.ensures ∙ ap₂ first_of judged c.check_width.ensures in
     job_passes _ _ (sym c.read_head.ensures ∙ ap head_in c.in_ok-setup.ensures.ok_part) _ first refl (omega (arith, c.body_units.ensures, c.if-body_units-gt4096.false))

@@ -14,4 +14,4 @@ returns-in-84 c =
 
 pub returns-in_default : goal.returns-in_default
 returns-in_default c =
-    other_refusal _ _ (λ (e : c.args.field.letter ≡ 0x46). omega arith) (λ (e : c.args.field.letter ≡ 0x54). omega arith)
+    other_refusal _ _ (λ (e : c.args.letter ≡ 0x46). omega arith) (λ (e : c.args.letter ≡ 0x54). omega arith)

@@ -4,10 +4,10 @@ use Rattle.std.proofs.Common.{◌∙◌}
 use Rattle.fields.proofs.Sheets.{waiting, no_waiting}
 use Rattle.fields.proofs.judge.check_name.Goals as goal
 
-pub returns-then-field-ne70 : goal.returns-then-field-ne70
-returns-then-field-ne70 c =
-    no_waiting _ _ c.if-field-ne70.true
+pub returns-then-letter-ne70 : goal.returns-then-letter-ne70
+returns-then-letter-ne70 c =
+    no_waiting _ _ c.if-letter-ne70.true
 
 pub returns : goal.returns
 returns c =
-    c.check_text.ensures ∙ waiting _ _ c.if-field-ne70.false
+    c.check_text.ensures ∙ waiting _ _ c.if-letter-ne70.false

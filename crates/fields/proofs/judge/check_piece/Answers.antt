@@ -14,4 +14,4 @@ returns-in-83 c =
 
 pub returns-in_default : goal.returns-in_default
 returns-in_default c =
-    no_piece _ _ (λ (e : c.args.field.letter ≡ 0x46). omega arith) (λ (e : c.args.field.letter ≡ 0x53). omega arith)
+    no_piece _ _ (λ (e : c.args.letter ≡ 0x46). omega arith) (λ (e : c.args.letter ≡ 0x53). omega arith)
