@@ -10,6 +10,7 @@ use Prim.Native.Nat.{ℕ, zero, suc, ◌+◌, ◌-◌, ◌*◌, ◌≤◌}
 use native.Mathlib.Omega.{arith}
 use lib.Dec.{leb, ltb, eqb}
 use lib.ListN.{length, replicate, drop, length-map}
+use Rattle.std.proofs.lemmas.List.{map-append}
 use borrow.Author.Tests.{le-leb, not-true}
 use Rattle.std.specs.Prelude.{if◌then◌else◌}
 use Rattle.characters.proofs.Tests.{by_if, and_left, and_right}
@@ -59,10 +60,6 @@ pick_only f false x x' p = refl
 if_map : {A B : Type 0} (f : A → B) (c : Bool) (x y : A) (x' y' : B) → x' ≡ f x → y' ≡ f y → (if c then x' else y') ≡ f (if c then x else y)
 if_map f true x y x' y' p q = p
 if_map f false x y x' y' p q = q
-
-map_append : {A B : Type 0} (f : A → B) (l m : List A) → map f (l ++ m) ≡ map f l ++ map f m
-map_append f [] m = refl
-map_append f (a ∷ l) m = ap (λ (n : List _). f a ∷ n) (map_append f l m)
 
 -- a map through another
 map_through : {A B : Type 0} (f : A → B) (g : B → B) (h : A → A) → ((a : A) → g (f a) ≡ f (h a)) → (l : List A) → map g (map f l) ≡ map f (map h l)
@@ -241,7 +238,7 @@ unfolding extend_lines base-extend-lines add_line base-add-line
 extend_base s ls [] = refl
 extend_base s ls (n ∷ new) =
     ap₂ (λ (l : List RenderLine) (ns : List (List ℕ)). extend_lines s (extended l ns) (map as_line new))
-    (ap (λ (r : RenderLine). map as_line ls ++ (r ∷ [])) (padded_base s n) ∙ sym (map_append as_line ls (base-padded s n ∷ [])))
+    (ap (λ (r : RenderLine). map as_line ls ++ (r ∷ [])) (padded_base s n) ∙ sym (map-append as_line ls (base-padded s n ∷ [])))
     (none_waits (as_line n))
     ∙ extend_base s (base-add-line s ls n) new
 
@@ -451,7 +448,7 @@ row_base s old t q ds b h =
     (rw (none_hangs s n 0 q (hangs (border_of b []) []) ds)
     (ap (λ (a : Extended). some (on_sheet a []))
     (ap (λ (l : List RenderLine). extend_lines s (bare old) (map as_line (base-rowLines s n ds) ++ l)) (drawn_base s (base-border s.annotation b))
-    ∙ ap (extend_lines s (bare old)) (sym (map_append as_line (base-rowLines s n ds) (base-ifDrawn s (base-border s.annotation b))))
+    ∙ ap (extend_lines s (bare old)) (sym (map-append as_line (base-rowLines s n ds) (base-ifDrawn s (base-border s.annotation b))))
     ∙ extend_base s old (base-rowLines s n ds ++ base-ifDrawn s (base-border s.annotation b))))))
 
 last_base : (f g : List ℕ → List ℕ) → ((b : List ℕ) → f b ≡ g b) → (old : List BaseLine) → on_last f (map as_line old) ≡ map as_line (base-onLast g old)

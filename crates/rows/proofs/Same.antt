@@ -15,7 +15,7 @@ use Rattle.fields.proofs.SpansBack.{past_head}
 -- ---- holes
 
 -- two bytes written again
-two_same : (h o n : ℕ) → o < 256 → h * 256 + o ≡ n → two n ≡ h ∷ o ∷ []
+pub two_same : (h o n : ℕ) → o < 256 → h * 256 + o ≡ n → two n ≡ h ∷ o ∷ []
 two_same h o n k e = let (x, y) = two_back h o n k e in rw (x, y)
 
 same_hole : (p q l : ℕ) (t after : List ℕ) (h : Option Piece) (r : Option (List Hole)) → q < 256 → OnSome (Same piece_bytes (whole l t)) h
@@ -148,12 +148,14 @@ same_content l (p ∷ q ∷ w ∷ r ∷ ls) e h =
     (λ m k. (tt, ap₂ field (sym e) (ap₂ (λ (x y : List ℕ). x ++ (w ∷ r ∷ y)) (two_same p q (p * 256 + q) h.1.0 refl) k))))
     (λ _. tt)
 
-same_hanging : (r : Raw) → OfBytes r → OnSome (Same hanging_bytes r) (read_hanging r)
+-- a V field that is read is written again as it stood
+pub same_hanging : (r : Raw) → OfBytes r → OnSome (Same hanging_bytes r) (read_hanging r)
 unfolding read_hanging
 same_hanging broken h = tt
 same_hanging (whole l t) h = by_if (OnSome (Same hanging_bytes (whole l t))) (eqb l 0x56) (λ e. same_content l t (eqb-true l 0x56 e) h) (λ _. tt)
 
-overhang_each : (vs : List Hanging) → overhang_bytes vs ≡ each hanging_bytes vs
+-- the bytes of all V fields, one after the other
+pub overhang_each : (vs : List Hanging) → overhang_bytes vs ≡ each hanging_bytes vs
 unfolding overhang_bytes
 overhang_each [] = refl
 overhang_each (v ∷ vs) = ap (λ (x : List ℕ). hanging_bytes v ++ x) (overhang_each vs)
@@ -217,7 +219,8 @@ every_right : {A : Type 0} (P : A → Type 0) (l m : List A) → Every P (l ++ m
 every_right P [] m h = h
 every_right P (a ∷ l) m h = every_right P l m h.1
 
-every_both : {A : Type 0} (P : A → Type 0) (l m : List A) → Every P l → Every P m → Every P (l ++ m)
+-- what holds of each member of two lists holds of each member of both together
+pub every_both : {A : Type 0} (P : A → Type 0) (l m : List A) → Every P l → Every P m → Every P (l ++ m)
 every_both P [] m h k = k
 every_both P (a ∷ l) m h k = (h.0, every_both P l m h.1 k)
 
