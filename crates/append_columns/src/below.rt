@@ -1,51 +1,46 @@
 // The border below the row, with the holes that the seats which hang on make in it. What a function here requires, its callers in this crate
 // show.
-ghost use Rattle.std.specs.Prelude.{◌≡◌, ◌+◌, ◌-◌, ◌≤◌, ◌<◌, length};
-ghost use Rattle.slots.specs.Seats.{SlotsIn};
+ghost use Rattle.std.specs.Prelude.{◌≡◌, ◌≤◌, length};
 ghost use Rattle.extend_lines.specs.Emitted.{InBounds, OneLineMore};
-ghost use Rattle.seats.specs.Keep.{RowIn};
 ghost use Rattle.append_columns.specs.Below.{NextOrSame, PutsHoled, DrawsHoled, AddsHoled, AddsBelow};
 
+use borders::segment::HORIZ;
 use extend_lines::line::{Lines, add_border, add_text_line, too_long};
 use fields::store::{put_byte, put_bytes, put_head, put_two};
+use long_borders::border::BorderHoriz;
 use row_borders::border::next_border;
 use row_holes::row::{cut_holes, put_holes};
 use row_holes::text::push_holes;
 use row_lines::long::is_long;
 use rows::RenderOptions;
-use seats::keep::Kept;
-use slots::seat::Slots;
+use seats::row::Row;
+use seats::survey::Surveyed;
 
 // A border with holes as a G field: an annotation, the number of its segments, the segments, and the holes of all seats.
 fn put_holed(
     out: &mut [u8],
     lines: Lines,
     annotation: u8,
-    segs: &[u8],
-    cells: &[u8],
-    sheet: &[u8],
-    first: Slots,
+    segments: &[u8],
+    row: &Row<'_>,
     collapse: bool,
     height: usize,
     laid: &mut [u8],
 ) -> Lines
-    requires { InBounds lines × (length segs.now ≤ 65536) × (length laid.old ≡ 65538) × SlotsIn cells.now sheet.now first }
+    requires { InBounds lines × (length segments.now ≤ 65536) × (length laid.old ≡ 65538) }
     ensures one_line_more { OneLineMore lines result }
-    ensures puts_holed { PutsHoled out.old lines annotation segs.now cells.now sheet.now first collapse height out.new result }
+    ensures puts_holed { PutsHoled out.old lines annotation segments.now row.now collapse height out.new result }
 {
     let base = lines.at + 3;
     let count = put_byte(out, base, annotation);
-    let start = put_two(out, count, segs.len() % 65536);
-    let place = put_bytes(out, start, segs);
-    let p = put_holes(
-        out, base, place, annotation, cells, sheet, first, collapse, height, laid,
-    );
-    if p.long {
+    let start = put_two(out, count, segments.len() % 65536);
+    let place = put_bytes(out, start, segments);
+    let Some(end) = put_holes(out, base, place, annotation, row, collapse, height, laid) else {
         return too_long(lines);
-    }
-    put_head(out, lines.at, b'G', (p.at - base) % 65536);
+    };
+    put_head(out, lines.at, b'G', (end - base) % 65536);
     Lines {
-        at: p.at,
+        at: end,
         count: lines.count + 1,
         ..lines
     }
@@ -56,25 +51,21 @@ fn add_drawn(
     out: &mut [u8],
     lines: Lines,
     options: RenderOptions,
-    segs: &[u8],
-    cells: &[u8],
-    sheet: &[u8],
-    first: Slots,
+    segments: &[u8],
+    row: &Row<'_>,
     collapse: bool,
     height: usize,
 ) -> Lines
-    requires { InBounds lines × (length segs.now ≤ 65536) × SlotsIn cells.now sheet.now first }
+    requires { InBounds lines × (length segments.now ≤ 65536) }
     ensures one_line_more { OneLineMore lines result }
-    ensures draws_holed { DrawsHoled out.old lines options segs.now cells.now sheet.now first collapse height out.new result }
+    ensures draws_holed { DrawsHoled out.old lines options segments.now row.now collapse height out.new result }
 {
     let line = push_holes(
         out,
         lines,
         options.annotation,
-        segs,
-        cells,
-        sheet,
-        first,
+        segments,
+        row,
         collapse,
         height,
     );
@@ -84,62 +75,33 @@ fn add_drawn(
     add_text_line(out, lines, line, options)
 }
 
-// A border in a buffer, cut for its holes; no hole ends past it, so that it keeps its length.
+// A border cut for its holes. No hole ends past it, so that it keeps its length, whatever was cut for a line that is too long to be laid.
 fn add_holed(
     out: &mut [u8],
     lines: Lines,
     options: RenderOptions,
-    cells: &[u8],
-    sheet: &[u8],
-    first: Slots,
+    row: &Row<'_>,
     collapse: bool,
     height: usize,
-    border: &mut [u8],
-    len: usize,
+    border: &mut BorderHoriz<'_>,
 ) -> Lines
-    requires { InBounds lines × (length border.old ≡ 65536) × SlotsIn cells.now sheet.now first }
-    ensures one_line_more { OneLineMore lines result × (length border.new ≡ length border.old) }
-    ensures adds_holed { AddsHoled out.old lines options border.old len cells.now sheet.now first collapse height out.new result }
+    requires { InBounds lines × (length border.old.buffer.now ≡ 65536) }
+    ensures one_line_more { OneLineMore lines result }
+    ensures adds_holed { AddsHoled out.old lines options border.old row.now collapse height out.new result }
 {
-    if border.len() < len {
-        return too_long(lines);
-    }
+    let annotation = options.annotation;
     let mut laid = [0u8; 65538];
-    cut_holes(
-        border,
-        len,
-        options.annotation,
-        cells,
-        sheet,
-        first,
-        collapse,
-        height,
-        &mut laid,
-    );
+    let len = border.len;
+    cut_holes(border, annotation, row, collapse, height, &mut laid);
+    border.len = len;
+    let Some(segments) = border.segments() else {
+        return too_long(lines);
+    };
     if options.pad {
-        return add_drawn(
-            out,
-            lines,
-            options,
-            &border[..len],
-            cells,
-            sheet,
-            first,
-            collapse,
-            height,
-        );
+        return add_drawn(out, lines, options, segments, row, collapse, height);
     }
     put_holed(
-        out,
-        lines,
-        options.annotation,
-        &border[..len],
-        cells,
-        sheet,
-        first,
-        collapse,
-        height,
-        &mut laid,
+        out, lines, annotation, segments, row, collapse, height, &mut laid,
     )
 }
 
@@ -148,40 +110,35 @@ pub fn add_below(
     out: &mut [u8],
     lines: Lines,
     options: RenderOptions,
-    cells: &[u8],
-    sheet: &[u8],
-    at: &[usize; 16],
-    end: &[usize; 16],
-    width: &[usize; 16],
-    hung: &[bool; 16],
-    kept: Kept,
-    first: Slots,
+    row: &Row<'_>,
     joined: bool,
     collapse: bool,
-    total: usize,
-    height: usize,
+    surveyed: Surveyed,
     holes: bool,
-    border: &mut [u8],
+    buffer: &mut [u8],
 ) -> Lines
-    requires { InBounds lines × (length border.old ≡ 65536) × RowIn cells.now sheet.now at.now end.now width.now kept × SlotsIn cells.now sheet.now first }
+    requires { InBounds lines × (length buffer.old ≡ 65536) }
     ensures next_or_same { NextOrSame lines result }
-    ensures adds_below { AddsBelow out.old lines options cells.now sheet.now
-        at.now end.now width.now hung.now
-        kept first joined collapse total height holes out.new result }
+    ensures adds_below { AddsBelow out.old lines options row.now joined collapse surveyed holes out.new result }
 {
     if !options.borders {
         return lines;
     }
-    let n = next_border(
-        border, total, joined, cells, sheet, at, end, width, hung, kept, collapse,
-    );
+    let mut border = BorderHoriz::new(buffer, surveyed.total, HORIZ);
+    next_border(&mut border, joined, row, collapse);
     if holes {
         return add_holed(
-            out, lines, options, cells, sheet, first, collapse, height, border, n,
+            out,
+            lines,
+            options,
+            row,
+            collapse,
+            surveyed.height,
+            &mut border,
         );
     }
-    if border.len() < n {
+    let Some(segments) = border.segments() else {
         return too_long(lines);
-    }
-    add_border(out, lines, options, options.annotation, &border[..n])
+    };
+    add_border(out, lines, options, options.annotation, segments)
 }

@@ -1,13 +1,14 @@
 // `append_columns_with_borders` (document 01, "Rows and blocks on a sheet", and requests 2.1 and 2.2): a row of cells beside each other, among
 // them those that hang from the rows above; the border above it joined to their inner edges, the border below it likewise, with holes for the
 // cells that hang on, and with collapsing the cells' first and last borders merged into the two. The row's first line takes the names that wait
-// on the sheet; where the row has no line they wait on. No heap: the first 16 cells are kept in arrays, a border is put together in 65,536
+// on the sheet; where the row has no line they wait on. No heap: the first 16 cells are kept in an array, a border is put together in 65,536
 // bytes of stack, and a line that comes where the border is in 65,538.
 #![tactic(auto)]
 
 mod below;
 mod lay;
 mod old;
+mod sheet;
 
 ghost use Rattle.std.specs.Prelude.{◌≡◌};
 ghost use Rattle.fields.specs.Answer.{rendered};
@@ -16,10 +17,9 @@ ghost use Rattle.rows.specs.Answer.{columns_answer};
 ghost use Rattle.checks.proofs.Verdicts.{columns_number};
 
 use crate::lay::lay;
-use crate::old::ends_in_border;
-use bodies::walk::last_line;
+use crate::sheet::OldSheet;
 use checks::cells::check_cells;
-use checks::sheet::{check_sheet, sheet_parts};
+use checks::sheet::check_sheet;
 use fields::answer::refuse;
 use fields::judge::check_width;
 use fields::refusal::{Refusal, first_of};
@@ -47,12 +47,6 @@ pub fn append_columns_with_borders(
     if let Err(refusal) = check_inputs(options, sheet, cells) {
         return refuse(refusal, store);
     }
-    let parts = sheet_parts(sheet);
-    let stop = parts.names;
-    let from = parts.hanging;
-    let last = last_line(sheet, 5, stop);
-    let joined = ends_in_border(sheet, last, stop);
-    lay(
-        options, sheet, stop, from, last, joined, cells, collapse, store,
-    )
+    let old = OldSheet::of(sheet);
+    lay(options, &old, cells, collapse, store)
 }

@@ -1,56 +1,26 @@
 // The lines of the old sheet, the last of them joined to the row if it is a border. What a function here requires, its callers in this
 // crate show.
-ghost use Rattle.std.specs.Prelude.{◌≡◌, true, ◌+◌, ◌≤◌, ◌<◌, length};
-ghost use Rattle.fields.specs.Field.{raws, part};
+ghost use Rattle.std.specs.Prelude.{◌≡◌, ◌≤◌, length};
 ghost use Rattle.extend_lines.specs.Emitted.{InBounds, OneLineMore};
-ghost use Rattle.seats.specs.Keep.{RowIn};
-ghost use Rattle.append_columns.specs.Old.{EndsInBorder, PutsJoined, PutsPrev, AddsOld};
+ghost use Rattle.append_columns.specs.Old.{PutsJoined, PutsPrev, AddsOld};
 
+use crate::sheet::OldSheet;
 use extend_lines::copy::copy_lines;
-use extend_lines::line::{Lines, put_border, too_long};
-use fields::store::{put_byte, put_bytes, put_head, put_two};
-use places::border::border_parts;
+use extend_lines::line::{Lines, too_long};
+use long_borders::border::BorderHoriz;
+use overhang::border::put_border;
+use places::border::Border;
 use row_borders::border::prev_border;
-use seats::keep::Kept;
-
-// Whether a sheet's lines, which end at a place, end in a border that stands at another.
-pub fn ends_in_border(sheet: &[u8], last: usize, stop: usize) -> bool
-    ensures { (result ≡ true → last < stop) × EndsInBorder sheet.now last stop result }
-{
-    if stop <= last {
-        return false;
-    }
-    if sheet.len() <= last {
-        return false;
-    }
-    sheet[last] != b'L'
-}
+use seats::row::Row;
 
 // A border with other segments, its annotation and its holes as they stand.
-fn put_joined(
-    out: &mut [u8],
-    lines: Lines,
-    letter: u8,
-    content: &[u8],
-    holes: usize,
-    segs: &[u8],
-) -> Lines
-    requires { InBounds lines × (holes ≤ length content.now) × (length content.now < 65536) × (length segs.now ≤ 65536) }
+fn put_joined(out: &mut [u8], lines: Lines, border: Border<'_>, segments: &[u8]) -> Lines
+    requires { InBounds lines × (length segments.now ≤ 65536) }
     ensures one_line_more { OneLineMore lines result }
-    ensures puts_joined { PutsJoined out.old lines letter content.now holes segs.now out.new result }
+    ensures puts_joined { PutsJoined out.old lines border.entry segments.now out.new result }
 {
-    if content.len() < 1 {
-        return too_long(lines);
-    }
-    if letter != b'G' {
-        return put_border(out, lines, content[0], segs);
-    }
-    let n = 3 + segs.len() + (content.len() - holes);
-    let start = put_head(out, lines.at, b'G', n % 65536);
-    let first = put_byte(out, start, content[0]);
-    let second = put_two(out, first, segs.len() % 65536);
-    let third = put_bytes(out, second, segs);
-    let end = put_bytes(out, third, &content[holes..]);
+    let end = put_border(out, lines.at, border.annotation, segments, 0, border.holes);
+    let n = end - (lines.at + 3);
     let long = lines.long || 65535 < n;
     Lines {
         at: end,
@@ -59,91 +29,43 @@ fn put_joined(
     }
 }
 
-// The sheet's last border, the content of a B or G field: joined below at the inner edges, stretched if the row is wider, and with collapsing
-// merged with the seats' first borders.
+// The sheet's last border: joined below at the inner edges, stretched if the row is wider, and with collapsing merged with the seats' first
+// borders.
 fn put_prev_border(
     out: &mut [u8],
     lines: Lines,
-    letter: u8,
-    content: &[u8],
-    cells: &[u8],
-    sheet: &[u8],
-    at: &[usize; 16],
-    end: &[usize; 16],
-    width: &[usize; 16],
-    hung: &[bool; 16],
-    kept: Kept,
+    last: Border<'_>,
+    row: &Row<'_>,
     collapse: bool,
-    border: &mut [u8],
+    buffer: &mut [u8],
 ) -> Lines
-    requires { InBounds lines × (length content.now < 65536) × (length border.old ≡ 65536) × RowIn cells.now sheet.now at.now end.now width.now kept }
-    ensures one_line_more { OneLineMore lines result × (length border.new ≡ length border.old) }
-    ensures puts_prev { PutsPrev out.old lines letter content.now cells.now sheet.now
-        at.now end.now width.now hung.now
-        kept collapse out.new result }
+    requires { InBounds lines × (length buffer.old ≡ 65536) }
+    ensures one_line_more { OneLineMore lines result }
+    ensures puts_prev { PutsPrev out.old lines last.entry row.now collapse out.new result }
 {
-    let parts = border_parts(letter, content);
-    let segs = parts.segs;
-    let holes = parts.holes;
-    let n = prev_border(
-        border,
-        &content[segs..holes],
-        cells,
-        sheet,
-        at,
-        end,
-        width,
-        hung,
-        kept,
-        collapse,
-    );
-    if border.len() < n {
+    let mut border = BorderHoriz::from_segments(buffer, last.segments);
+    prev_border(&mut border, row, collapse);
+    let Some(segments) = border.segments() else {
         return too_long(lines);
-    }
-    put_joined(out, lines, letter, content, holes, &border[..n])
+    };
+    put_joined(out, lines, last, segments)
 }
 
-// The lines of the old sheet up to a place, a last border as the row makes it.
+// The lines of the old sheet, a last border as the row makes it.
 pub fn add_old(
     out: &mut [u8],
-    sheet: &[u8],
-    stop: usize,
-    last: usize,
-    joined: bool,
-    cells: &[u8],
-    at: &[usize; 16],
-    end: &[usize; 16],
-    width: &[usize; 16],
-    hung: &[bool; 16],
-    kept: Kept,
+    old: &OldSheet<'_>,
+    row: &Row<'_>,
     collapse: bool,
-    border: &mut [u8],
+    buffer: &mut [u8],
 ) -> Lines
-    requires le_last { (5 ≤ last) × (last ≤ stop) × (stop ≤ length sheet.now) × (joined ≡ true → last + 3 ≤ stop) × (stop ≤ last + 65538) }
-    requires sheet_len_bound { (length (raws (part 5 stop sheet.now)) ≤ 65535) × (length (raws (part 5 last sheet.now)) ≤ 65535) }
-    requires border_len { (length border.old ≡ 65536) × RowIn cells.now sheet.now at.now end.now width.now kept }
-    ensures in_bounds { InBounds result × (result.count ≤ 65536) × (length border.new ≡ length border.old) }
-    ensures adds_old { AddsOld out.old sheet.now stop last joined cells.now
-        at.now end.now width.now hung.now
-        kept collapse out.new result }
+    requires { length buffer.old ≡ 65536 }
+    ensures in_bounds { InBounds result × (result.count ≤ 65536) }
+    ensures adds_old { AddsOld out.old old.now row.now collapse out.new result }
 {
-    if !joined {
-        return copy_lines(out, Lines::new(), &sheet[5..stop]);
+    let lines = copy_lines(out, Lines::new(), old.lines);
+    match old.last {
+        Some(last) => put_prev_border(out, lines, last, row, collapse, buffer),
+        None => lines,
     }
-    let old = copy_lines(out, Lines::new(), &sheet[5..last]);
-    put_prev_border(
-        out,
-        old,
-        sheet[last],
-        &sheet[last + 3..stop],
-        cells,
-        sheet,
-        at,
-        end,
-        width,
-        hung,
-        kept,
-        collapse,
-        border,
-    )
 }

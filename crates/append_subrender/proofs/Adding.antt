@@ -11,7 +11,7 @@ use lib.Dec.{leb, ltb, eqb}
 use lib.ListN.{length, take, drop}
 use borrow.Author.Tests.{ne_eqb}
 use Rattle.std.specs.Prelude.{Option as RustOption, None, Some, if◌then◌else◌}
-use Rattle.characters.proofs.Tests.{by_if, and_left, and_right, or_left, or_right}
+use Rattle.characters.proofs.Tests.{by_if, and_left, and_right, or_left, or_right, or_true}
 use Rattle.fields.specs.Field.{Raw, whole, broken, raws, read_all, all}
 use Rattle.fields.specs.Sheet.{Piece, str, fragment, read_str, read_piece, read_prefix, is_segment}
 use Rattle.fields.proofs.Back.{Every, GoodPiece}
@@ -26,8 +26,9 @@ use Rattle.fields.proofs.Texts.{rest}
 use Rattle.fields.proofs.Readings.{read_first, read_none}
 use Rattle.fields.specs.Spans.{Hole, RenderLine, text, border, read_holes, raw_holes, ends_within, holed, read_holed, read_border, read_line, readable_line, names_bytes}
 use Rattle.rows.specs.Columns.{holed_text}
-use Rattle.places.specs.Border.{FindsParts}
-use Rattle.places.specs.declared.border.Parts.{Parts}
+use Rattle.places.specs.Border.{ReadsBorder}
+use Rattle.places.specs.declared.border.Border.{Border}
+use Rattle.places.proofs.BorderLaws.{broken_line}
 use Rattle.holes.specs.Drawing.{PushesHoled}
 use Rattle.tagged_line.specs.Held.{Within, LineGrown, Held, Pushes}
 use Rattle.tagged_line.specs.Pieces.{PiecesOf, AddsPieces}
@@ -88,10 +89,6 @@ pub next_bounds : (p r : Lines) → InBounds p → OneLineMore p r → p.count +
 next_bounds p r h n few = record { at = omega (arith, h.at, n.at, n.count); count = omega (arith, n.count, few) }
 
 -- ---- one line behind its prefix
-
-or_true : (a : Bool) → (a || true) ≡ true
-or_true true = refl
-or_true false = refl
 
 -- a text that is read is not empty
 text_good : (t : List ℕ) (q : Piece) → read_str t ≡ some q → GoodPiece q
@@ -181,23 +178,23 @@ is_border_lem letter bytes g other read =
     some_of (λ l. is_border l ≡ true) _ g (rw (ne_eqb letter 0x4C other) at read)
     (by_if P (eqb letter 0x42) (λ _. plain_border_lem bytes) (λ _. by_if P (eqb letter 0x47) (λ _. holes_border bytes) (λ _. tt)))
 
-pub not_text : (letter : ℕ) (bytes : List ℕ) (ps : List Piece) → (letter ≡ 0x4C → ⊥) → read_line (whole letter bytes) ≡ some (text ps) → ⊥
+not_text : (letter : ℕ) (bytes : List ℕ) (ps : List Piece) → (letter ≡ 0x4C → ⊥) → read_line (whole letter bytes) ≡ some (text ps) → ⊥
 not_text letter bytes ps other read =
     let no : false ≡ true = is_border_lem letter bytes (text ps) other read in
     let z : ◌≡◌ {A = ℕ} 0 1 = cc in
     omega arith
 
 -- stretched to no width it is itself
-own_segments : (segs : List ℕ) → stretch_to segs 0 ≡ segs
+pub own_segments : (segs : List ℕ) → stretch_to segs 0 ≡ segs
 unfolding stretch_to
 own_segments segs =
     let n : 0 - length segs ≡ 0 = omega arith in
     rw (n, append-nil segs)
 
 -- A border: its drawing pushed onto names and prefix, with the sheet's annotation.
-pub prefixed_border : (o₀ o₁ o₂ o₃ o₄ : List ℕ) (p r : Lines) (s : RenderOptions) (names prefix : List ℕ) (cols letter : ℕ) (bytes : List ℕ) (new head line : Line) (parts : Parts)
-    → (letter ≡ 0x4C → ⊥) → length o₃ ≡ length o₀ → BeginsLine o₀ names o₁ new → Pushes o₁ new s.annotation prefix cols o₂ head → FindsParts letter bytes parts
-    → PushesHoled o₂ head s.annotation bytes parts.segs parts.holes 0 o₃ line → AddsTextLine o₃ p line s o₄ r
+pub prefixed_border : (o₀ o₁ o₂ o₃ o₄ : List ℕ) (p r : Lines) (s : RenderOptions) (names prefix : List ℕ) (cols letter : ℕ) (bytes : List ℕ) (new head line : Line) (parts : Border)
+    → (letter ≡ 0x4C → ⊥) → length o₃ ≡ length o₀ → BeginsLine o₀ names o₁ new → Pushes o₁ new s.annotation prefix cols o₂ head → ReadsBorder letter bytes parts
+    → PushesHoled o₂ head s.annotation parts 0 o₃ line → AddsTextLine o₃ p line s o₄ r
     → AddsPrefixed o₀ p s names prefix cols (whole letter bytes) o₄ r
 prefixed_border o₀ o₁ o₂ o₃ o₄ p r s names prefix cols letter bytes new head line parts other size begin push finds draw end ns (text ps) reads read ok apart formed wide st ls e =
     absurd (not_text letter bytes ps other read)
@@ -218,11 +215,6 @@ AddsPairs out p s names fields coming rep last out' r =
     (ns : List (List ℕ)) (gs : List RenderLine) (ps : List (List ℕ)) → NamesOf (drop p.from names) ns → read_all read_line fields ≡ some gs
     → all readable_line gs ≡ true → Coming coming rep last ps → guest_misfit rep gs ps ≡ false → Adds out p s names ns (behind_prefixes s rep gs ps) out' r
 
--- a rest that is no field reads as no lines
-pub no_lines_read : (rest : List Raw) (gs : List RenderLine) → read_all read_line (broken ∷ rest) ≡ some gs → ⊥
-unfolding read_line
-no_lines_read rest gs e = let x = (read_first read_line broken rest gs e).first in let z : ◌≡◌ {A = ℕ} 0 1 = cc in omega arith
-
 module _ (out : List ℕ) (p : Added) (s : RenderOptions) (names : List ℕ) (fields coming : List Raw) (rep : Bool) (last : RustOption Prefix) where
   -- No prefix is left.
   pairs_out : (coming' : List Raw) (q : RustOption Prefix) → Steps coming rep last coming' q → q ≡ None → AddsPairs out p s names fields coming rep last out p
@@ -238,7 +230,7 @@ module _ (out : List ℕ) (p : Added) (s : RenderOptions) (names : List ℕ) (fi
 
   -- A rest that is no field.
   pairs_broken : (rest : List Raw) → fields ≡ broken ∷ rest → AddsPairs out p s names fields coming rep last out p
-  pairs_broken rest is ns gs ps reads read ok c apart = absurd (no_lines_read rest gs (sym (ap (read_all read_line) is) ∙ read))
+  pairs_broken rest is ns gs ps reads read ok c apart = absurd (broken_line rest gs (sym (ap (read_all read_line) is) ∙ read))
 
   -- One pair, which takes the names that wait, and those after it.
   pairs_on : (mid out' : List ℕ) (m : Lines) (r : Added) (coming' : List Raw) (q : RustOption Prefix) (pre : Prefix) (field : Raw) (rest : List Raw) → Steps coming rep last coming' q

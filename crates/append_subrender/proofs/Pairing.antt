@@ -2,22 +2,22 @@
 -- Refusal 10 of the two calls is a test, and where it fails their lines are a list.
 -- Assumes nothing.
 use mathlib.Core.Path.{◌≡◌, refl, sym, ap, ◌∙◌}
-use mathlib.Core.Bool.{Bool, true, false, not, ◌||◌}
+use mathlib.Core.Bool.{Bool, true, false, ◌||◌}
 use mathlib.Core.Option
 use mathlib.Core.Option.{Option, none, some}
 use mathlib.Core.List.{List, [], ◌∷◌, ◌++◌, map}
-use Prim.Native.Nat.{ℕ, zero, suc, ◌+◌, ◌≤◌}
+use Prim.Native.Nat.{ℕ, zero, suc, ◌≤◌}
 use native.Mathlib.Omega.{arith}
 use lib.Dec.{eqb}
 use lib.ListN.{length, take}
 use Rattle.std.specs.Prelude.{Option as RustOption, None, Some, if◌then◌else◌}
 use Rattle.characters.proofs.Tests.{and_left, and_right}
-use Rattle.fields.specs.Field.{Raw, whole, broken, read_all, all, part}
+use Rattle.fields.specs.Field.{Raw, whole, broken, read_all, all}
 use Rattle.fields.specs.Text.{readable_text}
 use Rattle.fields.specs.Sheet.{read_prefix}
-use Rattle.fields.specs.Widths.{piece_width, text_width}
+use Rattle.fields.specs.Widths.{text_width}
 use Rattle.borders.specs.BorderSegHoriz.{Horiz}
-use Rattle.borders.specs.BorderHoriz.{new_type, to_string, ◌>>=◌, as_str, sliceable, to_string_from, holed_to_string}
+use Rattle.borders.specs.BorderHoriz.{new_type, ◌>>=◌, holed_to_string}
 use Rattle.fields.specs.TaggedLine.{push_str}
 use Rattle.rows.specs.SubRenderer.{Extended, extended, later, with_names, padded, add_line, extend_lines}
 use Rattle.rows.specs.SubRenderer.{plain_border, with_prefix, prefixed, append_subrender, if_drawn, between, append_each, append_vert_row}
@@ -25,8 +25,9 @@ use Rattle.rows.specs.declared.RenderOptions.{RenderOptions}
 use Rattle.rows.specs.Named.{named_lines, names_left}
 use Rattle.rows.proofs.Lines.{readable_formed}
 use Rattle.rows.proofs.Adding.{extend_named}
-use Rattle.fields.specs.Spans.{Hole, RenderLine, text, border, Cell}
+use Rattle.fields.specs.Spans.{RenderLine, text, border, Cell}
 use Rattle.rows.specs.Columns.{none_if, overlaps, holed_text}
+use Rattle.rows.proofs.Columns.{map_none_if, string_split}
 use Rattle.fields.proofs.Readings.{read_first, read_none}
 use Rattle.append_subrender.specs.Misfit.{overlapping, any_overlapping, guest_misfit, cells_misfit, behind_prefix, behind_prefixes, cell_lines}
 use Rattle.append_subrender.specs.Prefixes.{coming, Coming, Steps}
@@ -64,10 +65,6 @@ misfit_out rep (g ∷ gs) = refl
 
 -- ---- what may panic, as a test and a value
 
-map_none_if : {A B : Type 0} (f : A → B) (b : Bool) (a : A) → Option.map f (none_if b a) ≡ none_if b (f a)
-map_none_if f true a = refl
-map_none_if f false a = refl
-
 bind_none_if : {A B : Type 0} (f : A → B) (b : Bool) (a : A) → (none_if b a >>= λ x. some (f x)) ≡ none_if b (f a)
 bind_none_if f true a = refl
 bind_none_if f false a = refl
@@ -75,19 +72,6 @@ bind_none_if f false a = refl
 bind_both : {A B : Type 0} (b c : Bool) (a : A) (f : A → Option B) (d : B) → f a ≡ none_if c d → (none_if b a >>= f) ≡ none_if (b || c) d
 bind_both true c a f d e = refl
 bind_both false c a f d e = e
-
-string_split : (segs : List ℕ) (pos : ℕ) (hs : List Hole) → to_string_from segs pos hs ≡ none_if (overlaps segs pos hs) (holed_text segs pos hs)
-unfolding to_string_from overlaps holed_text
-string_split segs pos [] = refl
-string_split segs pos (h ∷ hs) =
-    let q = h.place + piece_width h.piece in
-    let f : List ℕ → List ℕ = λ t. to_string (part pos h.place segs) ++ (as_str h.piece ++ t) in
-    go (sliceable pos h.place segs) f (to_string_from segs q hs) (overlaps segs q hs) (holed_text segs q hs) (string_split segs q hs)
-  where
-    go : (b : Bool) (f : List ℕ → List ℕ) (r : Option (List ℕ)) (o : Bool) (t : List ℕ) → r ≡ none_if o t
-        → (if b then Option.map f r else none) ≡ none_if (not b || o) (f t)
-    go true f r o t e = ap (Option.map f) e ∙ map_none_if f o t
-    go false f r o t e = refl
 
 -- one line behind its prefix
 one_split : (s : RenderOptions) (p : List ℕ) (g : RenderLine) → with_prefix s p g ≡ none_if (overlapping g) (behind_prefix s p g)

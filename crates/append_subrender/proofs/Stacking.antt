@@ -8,7 +8,7 @@ use Prim.Native.Nat.{ℕ, zero, suc, ◌+◌, ◌-◌, ◌*◌, ◌≤◌, ◌<�
 use native.Mathlib.Omega.{arith}
 use lib.Dec.{eqb, leb}
 use lib.ListN.{length, take, drop, get_or, length-drop}
-use lib.Seq.{length-take-le, take_all, drop-cons}
+use lib.Seq.{take_all}
 use Rattle.std.specs.Prelude.{if◌then◌else◌}
 use Rattle.characters.proofs.Tests.{by_if, and_left, and_right, or_left, or_right}
 use Rattle.fields.specs.Field.{Raw, whole, broken, raws_f, raws, read_all, all}
@@ -30,7 +30,8 @@ use Rattle.append_subrender.specs.Prefixes.{NamesOf, AddsPrefixed, Adds, added, 
 use Rattle.append_subrender.proofs.Pairing.{paired_on, paired_none, cells_on, cells_none, cells_misfit_on}
 use Rattle.append_subrender.specs.declared.prefixed.Added.{Added}
 use Rattle.append_subrender.proofs.Waiting.{adds_none, adds_line, adds_edge, adds_then}
-use Rattle.append_subrender.proofs.Adding.{next_bounds, no_lines_read}
+use Rattle.append_subrender.proofs.Adding.{next_bounds}
+use Rattle.places.proofs.BorderLaws.{broken_line}
 
 -- ---- a border of one segment
 
@@ -62,7 +63,7 @@ module _ (out : List ℕ) (p : Added) (s : RenderOptions) (names : List ℕ) (fi
 
   -- A rest that is no field.
   cell_broken : (out' : List ℕ) (r : Added) (rest : List Raw) → fields ≡ broken ∷ rest → AddsLines out p s names fields out' r
-  cell_broken out' r rest is ns gs reads read ok apart = absurd (no_lines_read rest gs (sym (ap (read_all read_line) is) ∙ read))
+  cell_broken out' r rest is ns gs reads read ok apart = absurd (broken_line rest gs (sym (ap (read_all read_line) is) ∙ read))
 
   -- One line, which takes the names that wait, and those after it: the empty prefix stays.
   cell_on : (mid out' : List ℕ) (m : Lines) (r : Added) (field : Raw) (rest : List Raw) → fields ≡ field ∷ rest

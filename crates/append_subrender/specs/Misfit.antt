@@ -1,7 +1,7 @@
 -- Refusal 10 of `append_subrender` and `append_vert_row` as a test, and the lines that they add where it does not meet them. That the two
 -- calls are these is proved (proofs/Pairing, `subrender_lines`, `vert_row_lines`).
 -- Assumes nothing: these are definitions.
-use Rattle.std.specs.Prelude.{◌≡◌, Bool, true, false, ◌||◌, List, [], ◌∷◌, ◌++◌, ℕ, take}
+use Rattle.std.specs.Prelude.{◌≡◌, Bool, true, false, ◌||◌, List, [], ◌∷◌, ◌++◌, ℕ}
 use Rattle.std.proofs.Math.Option.{some}
 use Rattle.fields.specs.Field.{Raw, raws, read_all}
 use Rattle.fields.specs.Sheet.{read_prefix}
@@ -53,18 +53,6 @@ cell_lines s first [] = []
 cell_lines s first (c ∷ cs) = between s first ++ (behind_prefixes s true c.lines ([] ∷ []) ++ cell_lines s false cs)
 
 -- ---- what the functions tell, of inputs that passed refusals 1 to 3
-
--- of one line
-abbrev pub TellsLine : Raw → Bool → Type 0
-TellsLine field r = (g : RenderLine) → read_line field ≡ some g → r ≡ overlapping g
-
--- of the first lines, so many at most, whose fields stand in a list
-abbrev pub TellsFields : List Raw → ℕ → Bool → Type 0
-TellsFields fields most r = (gs : List RenderLine) → read_all read_line fields ≡ some gs → r ≡ any_overlapping (take most gs)
-
--- of the first lines, so many at most
-abbrev pub TellsLines : List ℕ → ℕ → Bool → Type 0
-TellsLines body most r = TellsFields (raws body) most r
 
 -- of a guest
 abbrev pub TellsGuest : List ℕ → List ℕ → Bool → Bool → Type 0

@@ -9,7 +9,6 @@ ghost use Rattle.append_subrender.specs.Prefixes.{AddsRule, AddsRuleIf, AddsCell
 use crate::prefix::Prefix;
 use crate::prefixed::{Added, add_prefixed};
 use extend_lines::line::{Lines, add_border};
-use fields::field::wide;
 use fields::list::Fields;
 use fields::raw::Field;
 use rows::RenderOptions;
@@ -21,8 +20,8 @@ fn add_rule(out: &mut [u8], lines: Lines, options: RenderOptions, segment: u8) -
     ensures adds_rule { AddsRule out.old lines options segment out.new result }
 {
     let rule = [segment; 256];
-    let width = wide(options.width);
-    add_border(out, lines, options, options.annotation, &rule[..width])
+    let segments = &rule[..usize::from(options.width)];
+    add_border(out, lines, options, options.annotation, segments)
 }
 
 // The same, if it is to be drawn.

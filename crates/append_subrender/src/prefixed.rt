@@ -12,7 +12,7 @@ use fields::list::Fields;
 use fields::raw::Field;
 use fields::width::text_width;
 use holes::draw::push_holed;
-use places::border::border_parts;
+use places::border::Border;
 use rows::RenderOptions;
 
 // The lines so far, and where the names that still wait begin: at the first name, or behind the last once a line took them.
@@ -47,16 +47,7 @@ pub fn add_prefixed(
         let whole = head.add_pieces(out, field.content, true, waits);
         return add_text_line(out, lines, whole, options);
     }
-    let parts = border_parts(field.letter, field.content);
-    let drawn = push_holed(
-        out,
-        head,
-        annotation,
-        field.content,
-        parts.segs,
-        parts.holes,
-        0,
-    );
+    let drawn = push_holed(out, head, annotation, Border::of(field), 0);
     add_text_line(out, lines, drawn, options)
 }
 

@@ -1,3 +1,3 @@
-pub mod FieldLaws
 pub mod LineLaws
+pub mod WalkLaws
 pub mod BodyLaws

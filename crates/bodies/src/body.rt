@@ -1,32 +1,29 @@
 // The lines of a cell as it is laid.
-ghost use Rattle.std.specs.Prelude.{◌≤◌};
 ghost use Rattle.bodies.specs.Body.{BodyIn, FindsBody};
 
-use crate::walk::{Walked, past_top, walk_lines};
+use crate::walk::{Walked, walk_lines, without_top};
+use places::border::Border;
 
-// Where a cell's lines begin and end, the place after the cell, how many lines there are, and whether one of them, or the last border
-// that was taken off and stands behind them, has holes.
-#[derive(Clone, Copy, Debug, PartialEq, Eq)]
-pub struct Body {
-    pub at: usize,
-    pub end: usize,
-    pub stop: usize,
+// The bytes of a cell's lines, the last border that was taken off behind them, how many lines there are, and whether one of them, or that
+// border, has holes.
+#[derive(Clone, Copy)]
+pub struct Body<'a> {
+    pub lines: &'a [u8],
+    pub bottom: Option<Border<'a>>,
     pub count: usize,
     pub holed: bool,
 }
 
-impl Body {
-    ghost use Rattle.std.specs.Prelude.{◌≡◌};
-    ghost use Rattle.bodies.specs.Body.{body_of_lines};
+impl<'a> Body<'a> {
+    ghost use Rattle.bodies.specs.Body.{AllLines};
 
-    // All lines between two places.
-    fn of_lines(at: usize, end: usize, walked: Walked) -> Body
-        ensures { result ≡ body_of_lines at end walked }
+    // All lines that were walked.
+    fn all(lines: &'a [u8], walked: Walked<'a>) -> Body<'a>
+        ensures { AllLines lines.entry.now walked.entry result }
     {
         Body {
-            at,
-            end,
-            stop: end,
+            lines,
+            bottom: None,
             count: walked.count,
             holed: walked.holed,
         }
@@ -34,23 +31,22 @@ impl Body {
 }
 
 // A cell's lines: with collapsing without a first border, and then without a last one.
-pub fn body_of(s: &[u8], at: usize, end: usize, collapse: bool) -> Body
-    requires { at ≤ end }
-    ensures body_in { BodyIn at end result }
-    ensures finds_body { FindsBody s.now at end collapse result }
+pub fn body_of(lines: &[u8], collapse: bool) -> Body<'_>
+    ensures body_in { BodyIn lines.now result }
+    ensures finds_body { FindsBody lines.now collapse result }
 {
     if !collapse {
-        return Body::of_lines(at, end, walk_lines(s, at, end));
+        return Body::all(lines, walk_lines(lines));
     }
-    let from = past_top(s, at, end);
-    let walked = walk_lines(s, from, end);
-    let body = Body::of_lines(from, end, walked);
+    let lines = without_top(lines);
+    let walked = walk_lines(lines);
     match walked.last {
-        Some(last) if s[last] != b'L' => Body {
-            end: last,
-            count: body.count - 1,
-            ..body
+        Some(last) if last.letter != b'L' => Body {
+            lines: walked.before,
+            bottom: Some(Border::of(last)),
+            count: walked.count - 1,
+            holed: walked.holed,
         },
-        _ => body,
+        _ => Body::all(lines, walked),
     }
 }

@@ -1,5 +1,5 @@
-// The lines of a cell by their places in the bytes (request 2.1): where a first border ends, where the last line stands, the lines that
-// collapsing leaves with the border behind them, and the lines from a number on.
+// The lines of a cell (request 2.1): those behind a first border, the last one, the lines that collapsing leaves with the border behind
+// them, and the lines from a number on.
 #![tactic(auto)]
 
 pub mod body;

@@ -1,93 +1,82 @@
-// Walks over the lines between two places. The loops go by places and are no iterators over lines, since places are what is asked for.
-ghost use Rattle.std.specs.Prelude.{◌≤◌};
-ghost use Rattle.bodies.specs.Walk.{TopIn, PassesTop, TellsTop, WalkedIn, Walks, LastIn, FindsLast, SkipsTo};
+// Walks over lines that stand in bytes, one after the other.
+ghost use Rattle.std.specs.Prelude.{◌≡◌, ◌-◌, ◌≤◌, length, drop};
+ghost use Rattle.bodies.specs.Walk.{PassesTop, TellsTop, WalkedIn, Walks, Skips};
 
-use fields::field::{Field, field_at};
+use fields::list::split_field;
+use fields::raw::Field;
 
-// Where the last of some lines stands, if there is one, how many there are, and whether one of them is a border with holes.
-#[derive(Clone, Copy, Debug, PartialEq, Eq)]
-pub struct Walked {
-    pub last: Option<usize>,
+// The last of some lines, if there is one, the bytes of those before it, how many lines there are, and whether one of them is a border with
+// holes.
+#[derive(Clone, Copy)]
+pub struct Walked<'a> {
+    pub last: Option<Field<'a>>,
+    pub before: &'a [u8],
     pub count: usize,
     pub holed: bool,
 }
 
-// The place after a first border, or the same place where no border stands first.
-pub fn past_top(s: &[u8], from: usize, to: usize) -> usize
-    ensures top_in { TopIn from to result }
-    ensures passes_top { PassesTop s.now from to result }
+// The lines behind a first border, or all of them where no border stands first.
+pub fn without_top(lines: &[u8]) -> &[u8]
+    ensures shorter { length result.now ≤ length lines.now }
+    ensures behind { result.now ≡ drop (length lines.now - length result.now) lines.now }
+    ensures passes_top { PassesTop lines.now result.now }
 {
-    if to <= from {
-        return from;
-    }
-    let Field::At { letter, next, .. } = field_at(s, from) else {
-        return from;
-    };
-    if letter != b'L' && next <= to {
-        next
-    } else {
-        from
+    match split_field(lines) {
+        Some((first, rest)) if first.letter != b'L' => rest,
+        _ => lines,
     }
 }
 
-// Whether a border stands first between two places.
-pub fn starts_border(s: &[u8], from: usize, to: usize) -> bool
-    ensures { TellsTop s.now from to result }
+// Whether a border stands first.
+pub fn starts_border(lines: &[u8]) -> bool
+    ensures { TellsTop lines.now result }
 {
-    from < to && s.get(from).is_some_and(|letter| *letter != b'L')
+    lines.first().is_some_and(|letter| *letter != b'L')
 }
 
-// The place of the last line between two places, if there is one; how many lines there are; and whether one has holes.
-pub fn walk_lines(s: &[u8], from: usize, to: usize) -> Walked
-    ensures walked_in { WalkedIn s.now from to result }
-    ensures walks { Walks s.now from to result }
+// All lines, and what the last of them is; bytes that are no line in the end leave no last one.
+pub fn walk_lines(lines: &[u8]) -> Walked<'_>
+    ensures walked_in { WalkedIn lines.now result }
+    ensures walks { Walks lines.now result }
 {
     let mut walked = Walked {
         last: None,
+        before: lines,
         count: 0,
         holed: false,
     };
-    let mut at = from;
-    while at < to {
-        let Field::At { letter, next, .. } = field_at(s, at) else {
-            return Walked {
-                last: None,
-                ..walked
-            };
+    let mut rest = lines;
+    // No `for` over `Fields`: the bytes before the last line are asked for too.
+    while let Some((line, next)) = split_field(rest) {
+        walked = Walked {
+            last: Some(line),
+            before: &lines[..lines.len() - rest.len()],
+            count: walked.count + 1,
+            holed: walked.holed || line.letter == b'G',
         };
-        walked.last = Some(at);
-        walked.count += 1;
-        walked.holed |= letter == b'G';
-        at = next;
+        rest = next;
     }
-    walked
+    if rest.is_empty() {
+        return walked;
+    }
+    Walked {
+        last: None,
+        before: lines,
+        ..walked
+    }
 }
 
-// The place of the last line between two places, or the second where there is none: the lines before it end there in either case.
-pub fn last_line(s: &[u8], from: usize, to: usize) -> usize
-    ensures last_in { LastIn s.now from to result }
-    ensures finds_last { FindsLast s.now from to result }
+// The lines behind the first n, or none.
+pub fn skip_lines(lines: &[u8], n: usize) -> &[u8]
+    ensures shorter { length result.now ≤ length lines.now }
+    ensures skips { Skips lines.now n result.now }
 {
-    walk_lines(s, from, to).last.unwrap_or(to)
-}
-
-// The place behind the first n lines between two places, or behind all of them.
-pub fn skip_lines(s: &[u8], at: usize, end: usize, n: usize) -> usize
-    ensures lower_bound { (at ≤ result) × (at ≤ end → result ≤ end) }
-    ensures skips_to { SkipsTo s.now at end n result }
-{
-    let mut p = at;
+    let mut rest = lines;
     for _ in 0..n {
-        if end <= p {
-            return p;
-        }
-        let Field::At { next, .. } = field_at(s, p) else {
-            return p;
+        let Some((_, next)) = split_field(rest) else {
+            return rest;
         };
-        if end < next {
-            return p;
-        }
-        p = next;
+        rest = next;
     }
-    p
+    rest
 }

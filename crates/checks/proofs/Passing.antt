@@ -18,7 +18,7 @@ use Rattle.fields.proofs.Readings.{read_first, read_on, read_size}
 use Rattle.rows.proofs.Reading.{some_of, GoodCell, sheet_reads, sheet_from, cells_reads, plain_reads, cells_from}
 use Rattle.fields.specs.Spans.{Sheet, Cell, read_sheet, read_cell_content, read_span_content, read_cell, read_cells, read_plain_cell, read_plain_cells, wide_hanging, wide, readable_sheet, readable_cell}
 use Rattle.fields.specs.SpanRefusals.{sheet_refusal, cells_refusal, plain_cells_refusal}
-use Rattle.fields.specs.Places.{CellsFrom}
+use Rattle.fields.specs.Places.{CellsIn}
 use Rattle.rows.specs.Fine.{FineSheet, FineCell}
 use Rattle.fields.proofs.SpansBack.{GoodSheet}
 
@@ -69,7 +69,7 @@ sheet_passes s e =
 pub record CellsPass (s : List ℕ) (o : Option (List Cell)) : Type 0 where
   pub cells : List Cell
   pub reads : o ≡ some cells
-  pub there : CellsFrom s 0 cells
+  pub there : CellsIn s cells
   pub few : length cells ≤ 16
   pub fields : length (raws s) ≡ length cells
   pub wide : all wide cells ≡ true

@@ -2,11 +2,10 @@
 -- Assumes nothing: these are definitions.
 use Rattle.std.specs.Prelude.{◌≡◌, Bool, false, List, [], ◌∷◌, ℕ, ◌≤◌, eqb, length, take, drop, if◌then◌else◌}
 use Rattle.std.proofs.Math.Option.{some}
-use Rattle.fields.specs.Field.{Raw, whole, broken, raws, part}
+use Rattle.fields.specs.Field.{Raw, whole, broken, raws, read_all, part}
 use Rattle.fields.specs.First.{first_of}
-use Rattle.fields.specs.Spans.{Sheet, before_hanging, from_hanging, before_names, from_names, read_sheet}
+use Rattle.fields.specs.Spans.{RenderLine, Hanging, Sheet, read_line, read_name, read_hanging, before_hanging, from_hanging, before_names, from_names, read_sheet}
 use Rattle.fields.specs.SpanRefusals.{lines_refusal, names_refusal, overhang_refusal}
-use Rattle.fields.specs.Places.{LinesAt, NamesAt, HungFrom}
 use Rattle.checks.specs.declared.sheet.Split.{Split}
 use Rattle.checks.specs.declared.sheet.Body.{Body}
 use Rattle.checks.specs.declared.sheet.Parts.{Parts}
@@ -51,6 +50,22 @@ pub record PartsIn (s : List ℕ) (r : Parts) : Type 0 where
   pub order : r.names ≤ r.hanging
   pub inside : r.hanging ≤ length s
   pub behind : 5 ≤ length s → 5 ≤ r.names
+
+-- the lines that stand between two places
+pub record LinesAt (s : List ℕ) (from to : ℕ) (ls : List RenderLine) : Type 0 where
+  pub order : from ≤ to
+  pub inside : to ≤ length s
+  pub reads : read_all read_line (raws (part from to s)) ≡ some ls
+
+-- the F fields that stand between two places
+pub record NamesAt (s : List ℕ) (from to : ℕ) (ns : List (List ℕ)) : Type 0 where
+  pub order : from ≤ to
+  pub inside : to ≤ length s
+  pub reads : read_all read_name (raws (part from to s)) ≡ some ns
+
+-- the V fields from a place on
+pub record HungFrom (s : List ℕ) (at : ℕ) (vs : List Hanging) : Type 0 where
+  pub reads : read_all read_hanging (raws (drop at s)) ≡ some vs
 
 -- the parts of a sheet that is read, and that its lines are few, since its head counts them in two bytes
 pub record SheetAt (s : List ℕ) (r : Parts) (t : Sheet) : Type 0 where

@@ -2,26 +2,23 @@
 -- Assumes nothing.
 use mathlib.Core.Path.{◌≡◌, refl, sym, ap, ◌∙◌}
 use mathlib.Core.Bool.{Bool, true, false, not, ◌||◌}
-use mathlib.Core.Option.{Option, none, some, map, some-injective}
+use mathlib.Core.Option.{Option, none, some, some-injective}
 use mathlib.Core.List.{List, [], ◌∷◌, ◌++◌, append_assoc, append-nil}
-use Prim.Native.Nat.{ℕ, suc, ◌+◌, ◌-◌, ◌≤◌, ◌<◌}
+use Prim.Native.Nat.{ℕ, suc, ◌+◌, ◌≤◌, ◌<◌}
 use native.Mathlib.Omega.{arith}
 use borrow.Author.Tests.{le-leb}
 use lib.ListN.{length}
-use Rattle.fields.specs.Field.{head, field, Raw, whole, broken, raws, both, read_all}
-use Rattle.fields.specs.Sheet.{Piece, read_piece, pieces_bytes}
+use Rattle.fields.specs.Field.{field, Raw, whole, broken, raws, both, read_all}
 use Rattle.fields.specs.Store.{Wrote}
 use Rattle.fields.proofs.Back.{Every}
-use Rattle.fields.proofs.Sets.{wrote_before}
 use Rattle.block.proofs.Bounds.{length_field}
 use Rattle.rows.proofs.Reading.{some_of, Bytes, OfBytes, splits}
-use Rattle.fields.specs.Spans.{RenderLine, text, read_line, content, letter as line-letter}
+use Rattle.fields.specs.Spans.{RenderLine, read_line, content, letter as line-letter}
 use Rattle.rows.specs.Answer.{fits}
 use Rattle.rows.proofs.Same.{line_same}
-use Rattle.tagged_line.specs.Pieces.{Copies}
 use Rattle.extend_lines.specs.Emitted.{Emitted, InBounds, OneLineMore, CopiesLine, CopiesFields}
 use Rattle.extend_lines.specs.declared.line.Lines.{Lines}
-use Rattle.extend_lines.proofs.Emitting.{one_more, wrote_length, field_bytes}
+use Rattle.extend_lines.proofs.Emitting.{one_more, wrote_length}
 
 -- ---- one line
 
@@ -33,30 +30,10 @@ or_false false = refl
 short_more : (a r t : Bool) → r ≡ a → t ≡ true → r ≡ (a || not t)
 short_more a r t e f = e ∙ rw f (sym (or_false a))
 
--- A text, piece by piece.
-pub copies_text : (out mid out' : List ℕ) (p r : Lines) (letter : ℕ) (bytes : List ℕ) (next : ℕ) → letter ≡ 0x4C → length bytes < 65536
-    → r.count ≡ p.count + 1 → r.long ≡ p.long → r.at ≤ p.at + 3 + length bytes
-    → Copies out (p.at + 3) bytes mid r.at → length mid ≡ length out
-    → Wrote mid p.at (head 0x4C (r.at - (p.at + 3))) out' next → CopiesLine out p (whole letter bytes) out' r
-unfolding read_line
-copies_text out mid out' p r letter bytes next is few count long most copies same w l read known st ls e =
-    go (read_all read_piece (raws bytes)) refl (rw is at read)
-  where
-    go : (q : Option (List Piece)) → read_all read_piece (raws bytes) ≡ q → map text q ≡ some l → Emitted st (ls ++ (l ∷ [])) [] [] out' r
-    go none f g = absurd (let z : ◌≡◌ {A = ℕ} 0 1 = cc in omega arith)
-    go (some ps) f g =
-        let is : text ps ≡ l = some-injective (text ps) l g in
-        let v = copies ps f in
-        let n : r.at - (p.at + 3) ≡ length (pieces_bytes ps) = omega (arith, v.place) in
-        let ok : fits (text ps) ≡ true = le-leb (length (pieces_bytes ps)) 65535 (omega (arith, v.place)) in
-        rw (← is)
-        (one_more st out out' ls (text ps) p r e (wrote_length w ∙ same) count (short_more p.long r.long (fits (text ps)) long ok)
-        (λ _. rw (field_bytes 0x4C (pieces_bytes ps)) (wrote_before v (rw n at w))))
-
 -- A line as it stands: its field's bytes are the line's.
-pub copies_border : (out out' : List ℕ) (p r : Lines) (letter : ℕ) (bytes : List ℕ) → length bytes < 65536
+pub copies_line : (out out' : List ℕ) (p r : Lines) (letter : ℕ) (bytes : List ℕ) → length bytes < 65536
     → r.count ≡ p.count + 1 → r.long ≡ p.long → Wrote out p.at (field letter bytes) out' r.at → CopiesLine out p (whole letter bytes) out' r
-copies_border out out' p r letter bytes few count long w l read k st ls e =
+copies_line out out' p r letter bytes few count long w l read k st ls e =
     let same : field (line-letter l) (content l) ≡ field letter bytes =
     some_of (λ (x : RenderLine). field (line-letter x) (content x) ≡ field letter bytes) (read_line (whole letter bytes)) l read (line_same letter bytes k) in
     let n : length (content l) ≡ length bytes = omega (arith, ap length same, length_field (line-letter l) (content l), length_field letter bytes) in

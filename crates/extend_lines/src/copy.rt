@@ -7,30 +7,17 @@ ghost use Rattle.extend_lines.specs.Emitted.{InBounds, OneLineMore, CopiesLine, 
 use crate::line::Lines;
 use fields::list::Fields;
 use fields::raw::Field;
-use fields::store::{put_bytes, put_field, put_head};
-use tagged_line::piece::copy_pieces;
+use fields::store::{put_bytes, put_field};
 
-// One line: a text piece by piece, a border whole, with holes or without.
+// One line, as it stands.
 fn copy_line(out: &mut [u8], lines: Lines, field: Field<'_>) -> Lines
     requires { InBounds lines }
     ensures one_line_more { OneLineMore lines result }
     ensures copies_line { CopiesLine out.old lines (whole_of field.entry) out.new result }
 {
-    let count = lines.count + 1;
-    if field.letter == b'L' {
-        let start = lines.at + 3;
-        let end = copy_pieces(out, start, field.content);
-        put_head(out, lines.at, b'L', end - start);
-        return Lines {
-            at: end,
-            count,
-            ..lines
-        };
-    }
-    let end = put_field(out, lines.at, field.letter, field.content);
     Lines {
-        at: end,
-        count,
+        at: put_field(out, lines.at, field.letter, field.content),
+        count: lines.count + 1,
         ..lines
     }
 }

@@ -4,7 +4,6 @@ ghost use Rattle.extend_lines.specs.Emitted.{no_lines, InBounds, OneLineMore, Li
 
 use borders::draw::Drawing;
 use fields::answer::{finish, refuse};
-use fields::field::wide;
 use fields::refusal::Refusal;
 use fields::store::{put_byte, put_bytes, put_head};
 use rows::RenderOptions;
@@ -96,8 +95,7 @@ pub fn add_text_line(out: &mut [u8], lines: Lines, line: Line, options: RenderOp
     ensures adds_text_line { AddsTextLine out.old lines line options out.new result }
 {
     if options.pad {
-        let width = wide(options.width);
-        let padded = line.pad_to(out, width, options.annotation);
+        let padded = line.pad_to(out, usize::from(options.width), options.annotation);
         return finish_line(out, lines, padded);
     }
     finish_line(out, lines, line)

@@ -1,7 +1,7 @@
 -- A sheet that was written is read back, with its holes, the names that wait and its hanging cells, and its head counts its lines alone.
 -- Assumes nothing.
 use mathlib.Core.Path.{◌≡◌, refl, ap, ap₂, ◌∙◌}
-use mathlib.Core.Bool.{true, false, ◌&&◌}
+use mathlib.Core.Bool.{Bool, true, false, ◌&&◌}
 use mathlib.Core.Option.{some}
 use mathlib.Core.List.{List, [], ◌∷◌, ◌++◌, map, append_assoc}
 use Prim.Native.Nat.{ℕ, zero, suc, ◌+◌, ◌*◌, ◌/◌, ◌%◌, ◌≤◌, ◌<◌}
@@ -9,14 +9,15 @@ use native.Mathlib.Omega.{arith}
 use native.Mathlib.Nat.{div-add-mod', not-suc-le-zero}
 use lib.Dec.{leb}
 use lib.ListN.{length, take, drop, get_or, length-append, length-drop, length-map}
-use lib.Seq.{take-append_seam, drop-append_seam}
-use borrow.Author.Tests.{le-leb, eq-eqb}
+use lib.Seq.{take-append_seam, drop-append_seam, length-take-le}
+use borrow.Author.Tests.{le-leb, leb-true, eq-eqb}
+use Rattle.std.specs.Prelude.{if◌then◌else◌}
 use Rattle.characters.proofs.Tests.{if_cong}
-use Rattle.fields.specs.Field.{two, field, Raw, whole, raws, read_all, all}
+use Rattle.fields.specs.Field.{two, field, Raw, whole, broken, raws_f, raws, read_all, all}
 use Rattle.fields.specs.Sheet.{Piece, str, fragment, read_piece, piece_bytes}
 use Rattle.fields.proofs.Fields.{raws_nil, raws_field}
 use Rattle.fields.proofs.Back.{Every, GoodPiece, pieces_back, segments_back}
-use Rattle.fields.specs.Spans.{Hole, hole, RenderLine, text, border, Hanging, Sheet, RawHole, punched, raw_holes_f, raw_holes, read_hole, read_holes, ends_within, read_holed, read_line, is_span, read_hanging, is_hanging, before_hanging, from_hanging, read_name, is_name, before_names, from_names, read_headed, read_sheet, holes_bytes, content, letter, lines_bytes, hanging_content, overhang_bytes, names_bytes, body_bytes, sheet_bytes, HeadCounts}
+use Rattle.fields.specs.Spans.{Hole, hole, RenderLine, text, border, Hanging, Sheet, RawHole, punched, torn, raw_holes_f, raw_holes, read_hole, read_holes, ends_within, read_holed, read_line, is_span, read_hanging, is_hanging, before_hanging, from_hanging, read_name, is_name, before_names, from_names, read_headed, read_sheet, holes_bytes, content, letter, lines_bytes, hanging_content, overhang_bytes, names_bytes, body_bytes, sheet_bytes, HeadCounts}
 
 -- ---- holes
 
@@ -49,6 +50,41 @@ holes_cons p q l h o rest k =
     rw (le-leb n (length rest) k)
     (ap (λ (rs : List RawHole). punched (p * 256 + q) (whole l (take n rest)) ∷ rs)
     (holes_fuel (suc (suc (suc (suc (length rest))))) (length (drop n rest)) (drop n rest) (omega (arith, length-drop n rest)) (omega arith)))
+
+-- a place and a whole field behind it
+pub hole_whole : (p q : ℕ) (bs : List ℕ) (l : ℕ) (t : List ℕ) (rs : List Raw) → raws bs ≡ whole l t ∷ rs
+    → raw_holes (p ∷ q ∷ bs) ≡ punched (p * 256 + q) (whole l t) ∷ raw_holes (drop (3 + length t) bs)
+unfolding raws raws_f
+hole_whole p q [] l t rs e = absurd (let z : ◌≡◌ {A = ℕ} 0 1 = cc in omega arith)
+hole_whole p q (a ∷ []) l t rs e = absurd (let z : ◌≡◌ {A = ℕ} 0 1 = cc in omega arith)
+hole_whole p q (a ∷ h ∷ []) l t rs e = absurd (let z : ◌≡◌ {A = ℕ} 0 1 = cc in omega arith)
+hole_whole p q (a ∷ h ∷ o ∷ rest) l t rs e = go (leb (h * 256 + o) (length rest)) refl e
+  where
+    go : (b : Bool) → leb (h * 256 + o) (length rest) ≡ b
+        → (if b then whole a (take (h * 256 + o) rest) ∷ raws_f (suc (suc (length rest))) (drop (h * 256 + o) rest) else broken ∷ []) ≡ whole l t ∷ rs
+        → raw_holes (p ∷ q ∷ a ∷ h ∷ o ∷ rest) ≡ punched (p * 256 + q) (whole l t) ∷ raw_holes (drop (3 + length t) (a ∷ h ∷ o ∷ rest))
+    go true x k =
+        let n = h * 256 + o in
+        let fits = leb-true n (length rest) x in
+        let el : a ≡ l = cc in
+        let et : take n rest ≡ t = cc in
+        let size : 3 + length t ≡ suc (suc (suc n)) = omega (arith, ap length et, length-take-le n rest fits) in
+        holes_cons p q a h o rest fits ∙ rw (size, ← el, ← et) refl
+    go false x k = absurd (let z : ◌≡◌ {A = ℕ} 0 1 = cc in omega arith)
+
+-- a place behind which no whole field stands
+pub hole_torn : (p q : ℕ) (bs : List ℕ) → ((l : ℕ) (t : List ℕ) (rs : List Raw) → raws bs ≡ whole l t ∷ rs → ⊥) → raw_holes (p ∷ q ∷ bs) ≡ torn ∷ []
+unfolding raw_holes raw_holes_f raws raws_f
+hole_torn p q [] e = refl
+hole_torn p q (l ∷ []) e = refl
+hole_torn p q (l ∷ h ∷ []) e = refl
+hole_torn p q (l ∷ h ∷ o ∷ rest) e = go (leb (h * 256 + o) (length rest)) e
+  where
+    go : (b : Bool)
+        → ((x : ℕ) (t : List ℕ) (rs : List Raw) → (if b then whole l (take (h * 256 + o) rest) ∷ raws_f (suc (suc (length rest))) (drop (h * 256 + o) rest) else broken ∷ []) ≡ whole x t ∷ rs → ⊥)
+        → (if b then punched (p * 256 + q) (whole l (take (h * 256 + o) rest)) ∷ raw_holes_f (suc (suc (suc (suc (length rest))))) (drop (h * 256 + o) rest) else torn ∷ []) ≡ torn ∷ []
+    go true k = absurd (k _ _ _ refl)
+    go false k = refl
 
 -- a hole that was written is read back, whatever follows it
 pub holes_field : (p l : ℕ) (t bs : List ℕ) → raw_holes (two p ++ (field l t ++ bs)) ≡ punched p (whole l t) ∷ raw_holes bs
@@ -91,7 +127,8 @@ hole_back p (str a []) bs hs g e = absurd (omega arith)
 hole_back p (str a (b ∷ t)) bs hs g e = rw (holes_field p 0x53 (a ∷ b ∷ t) bs, read_holes) (rw e)
 hole_back p (fragment n) bs hs g e = rw (holes_field p 0x46 n bs, read_holes) (rw e)
 
-no_holes : raw_holes [] ≡ []
+-- no bytes, no holes
+pub no_holes : raw_holes [] ≡ []
 unfolding raw_holes raw_holes_f
 no_holes = refl
 

@@ -1,5 +1,5 @@
 // The fields of a list, one after the other: an iterator whose items are what the definition `raws` reads.
-ghost use Rattle.std.specs.Prelude.{◌≡◌, length};
+ghost use Rattle.std.specs.Prelude.{◌≡◌, ◌+◌, length, drop, IfSome};
 ghost use Rattle.fields.specs.Field.{raws};
 ghost use Rattle.std.specs.Iterator.{YieldsFirstBy, item_count};
 ghost use Rattle.fields.specs.List.{raw, left, SplitsOff};
@@ -7,8 +7,10 @@ ghost use Rattle.fields.specs.List.{raw, left, SplitsOff};
 use crate::raw::{Broken, Field};
 
 // The field that bytes start with and what follows it, if a whole one stands there.
-fn split_field<'a>(bytes: &'a [u8]) -> Option<(Field<'a>, &'a [u8])>
-    ensures { SplitsOff bytes.now result }
+pub fn split_field<'a>(bytes: &'a [u8]) -> Option<(Field<'a>, &'a [u8])>
+    ensures size { IfSome result (λ p. length bytes.now ≡ 3 + length p.0.content.now + length p.1.now) }
+    ensures behind { IfSome result (λ p. p.1.now ≡ drop (3 + length p.0.content.now) bytes.now) }
+    ensures splits_off { SplitsOff bytes.now result }
 {
     let (head, rest) = bytes.split_first_chunk::<3>()?;
     let [letter, high, low] = *head;

@@ -7,14 +7,13 @@ use mathlib.Core.Option.{some}
 use Prim.Native.Nat.{ℕ, ◌+◌, ◌-◌, ◌*◌, ◌≤◌, min, max}
 use native.Mathlib.Omega.{arith}
 use lib.Dec.{leb}
-use lib.ListN.{length, drop, get_or, length-drop}
+use lib.ListN.{length, drop, length-drop}
 use lib.Seq.{take_all}
 use borrow.Author.Tests.{leb-true}
 use Rattle.characters.proofs.Tests.{and_left, and_right, or_left, or_right}
 use Rattle.fields.specs.Field.{whole, part, all}
 use Rattle.fields.specs.Sheet.{Piece, str, read_piece, readable_piece}
 use Rattle.fields.specs.Widths.{piece_width}
-use Rattle.fields.proofs.Parts.{part_length}
 use Rattle.borders.specs.BorderHoriz.{stretch_to, to_string, as_str, sliceable, up_to_hole, at_hole, into_tagged_from}
 use Rattle.fields.specs.TaggedLine.{push_str, push}
 use Rattle.rows.proofs.Lines.{push_twice}
@@ -22,6 +21,7 @@ use Rattle.fields.specs.Spans.{Hole, RawHole, punched, torn, raw_holes, read_hol
 use Rattle.rows.specs.Columns.{overlaps, holed_text}
 use Rattle.places.proofs.HolesLaws.{read_first_hole, read_torn, read_no_holes, raw_size, raw_size-cons, raw_size_in}
 use Rattle.tagged_line.specs.Held.{Within, LineGrown, Held}
+use Rattle.places.specs.declared.border.Border.{Border}
 use Rattle.tagged_line.specs.declared.line.Line.{Line}
 use Rattle.holes.specs.declared.draw.Shown.{Shown}
 use Rattle.holes.specs.declared.draw.Shown.TheVariants.{AsText, AsItStands}
@@ -38,8 +38,8 @@ pub record FitsLeft (n : ℕ) (left : List RawHole) (hs : List Hole) : Type 0 wh
   pub within : all (ends_within n) hs ≡ true
   pub readable : all readable_hole hs ≡ true
 
-pub fits_left : (n : ℕ) (s : List ℕ) (at : ℕ) (hs : List Hole) (left : List RawHole) → left ≡ raw_holes (drop at s) → Fits n s at hs → FitsLeft n left hs
-fits_left n s at hs left e f = record { reads = rw e f.reads.reads; within = f.within; readable = f.readable }
+pub fits_left : (n : ℕ) (holes : List ℕ) (hs : List Hole) (left : List RawHole) → left ≡ raw_holes holes → Fits n holes hs → FitsLeft n left hs
+fits_left n holes hs left e f = record { reads = rw e f.reads.reads; within = f.within; readable = f.readable }
 
 pub record FitsFirst (n p l : ℕ) (t : List ℕ) (more : List RawHole) (hs : List Hole) : Type 0 where
   pub one : Hole
@@ -112,13 +112,13 @@ reaches pos m end b e h = omega arith
 sum_segments : (pos b d : ℕ) → pos ≤ b → 8 * pos + 3 * d + (4 + 8 * (b - pos)) ≤ 8 * b + 3 * d + 4
 sum_segments pos b d h = omega arith
 
-room_piece : (b d x n to end : ℕ) → b ≤ end + 2 * d → end ≤ n + to → d + x + 5 ≤ n → 8 * b + 3 * d + 4 + (13 + 3 * x) ≤ drawn_most n to
-room_piece b d x n to end h i j = omega arith
+room_piece : (b d x k n to end : ℕ) → b ≤ end + 2 * d → end ≤ k + to → d + x + 5 ≤ n → 8 * b + 3 * d + 4 + (4 + 3 * x) ≤ drawn_most (k + n) to
+room_piece b d x k n to end h i j = omega arith
 
 pub few_next : (b c d e x end : ℕ) → b ≤ end + 2 * d → c ≤ 2 * x → d + x + 5 ≡ e → b + c ≤ end + 2 * e
 few_next b c d e x end h i j = omega arith
 
-grown_next : (b c d e x : ℕ) → d + x + 5 ≡ e → 8 * b + 3 * d + 4 + (9 + 3 * x) ≤ 8 * (b + c) + 3 * e
+grown_next : (b c d e x : ℕ) → d + x + 5 ≡ e → 8 * b + 3 * d + 4 + (3 + 3 * x) ≤ 8 * (b + c) + 3 * e
 grown_next b c d e x j = omega arith
 
 -- of so many bytes those that are not of the holes left
@@ -137,85 +137,91 @@ passed_hole n p l t left more h e =
     let k : raw_size left ≡ 5 + length t + raw_size more = rw e (raw_size-cons p l t more) in
     record { on = omega arith; size = omega arith; fits = omega arith; all_fit = omega arith }
 
-pub left_in : (s : List ℕ) (at : ℕ) (left : List RawHole) → left ≡ raw_holes (drop at s) → raw_size left ≤ length s
-left_in s at left e = rw e (omega (arith, raw_size_in (drop at s), length-drop at s))
+pub left_in : (holes : List ℕ) (left : List RawHole) → left ≡ raw_holes holes → raw_size left ≤ length holes
+left_in holes left e = rw e (raw_size_in holes)
 
 -- ---- the walk
 
-module _ (out₀ : List ℕ) (p₀ : Line) (a : ℕ) (s : List ℕ) (segs holes to : ℕ) (shown : Shown) (end : ℕ) where
+-- over segments and the bytes of holes
+abbrev pub DrawsWalk : List ℕ → Line → ℕ → List ℕ → List ℕ → ℕ → Shown → List ℕ → Line → Type 0
+DrawsWalk out p a segs holes to shown out' r =
+    (hs : List Hole) → Fits (length segs) holes hs → (st : List ℕ) (l : List Piece) → Held st l out p
+    → Held st (into_tagged_from a (stretch_to segs to) l 0 (map (shown_hole shown a) hs)) out' r
+
+module _ (out₀ : List ℕ) (p₀ : Line) (a : ℕ) (segs holes : List ℕ) (to : ℕ) (shown : Shown) (end : ℕ) where
   -- up to the holes that are left, and to a column, the border is drawn
   pub record Drawing (out : List ℕ) (p : Line) (pos : ℕ) (left : List RawHole) : Type 0 where
-    pub inside : raw_size left ≤ length s
+    pub inside : raw_size left ≤ length holes
     pub size : length out ≡ length out₀
-    pub few : pos ≤ end + 2 * passed (length s) left
-    pub grown : LineGrown p₀ p (8 * pos + 3 * passed (length s) left)
-    pub left_is : (hs : List Hole) → Fits (length (part segs holes s)) s holes hs → (st : List ℕ) (l : List Piece) → Held st l out₀ p₀
-        → (m : List Piece) × (rs : List Hole) × FitsLeft (length (part segs holes s)) left rs × Held st m out p
-        × (into_tagged_from a (stretch_to (part segs holes s) to) m pos (map (shown_hole shown a) rs)
-        ≡ into_tagged_from a (stretch_to (part segs holes s) to) l 0 (map (shown_hole shown a) hs))
+    pub few : pos ≤ end + 2 * passed (length holes) left
+    pub grown : LineGrown p₀ p (8 * pos + 3 * passed (length holes) left)
+    pub left_is : (hs : List Hole) → Fits (length segs) holes hs → (st : List ℕ) (l : List Piece) → Held st l out₀ p₀
+        → (m : List Piece) × (rs : List Hole) × FitsLeft (length segs) left rs × Held st m out p
+        × (into_tagged_from a (stretch_to segs to) m pos (map (shown_hole shown a) rs)
+        ≡ into_tagged_from a (stretch_to segs to) l 0 (map (shown_hole shown a) hs))
 
   -- before the first hole
-  pub draw_start : (n : ℕ) (left : List RawHole) → left ≡ raw_holes (drop holes s) → Within p₀ n → Drawing out₀ p₀ 0 left
+  pub draw_start : (n : ℕ) (left : List RawHole) → left ≡ raw_holes holes → Within p₀ n → Drawing out₀ p₀ 0 left
   draw_start n left e w =
       record {
-        inside = left_in s holes left e;
+        inside = left_in holes left e;
         size = refl;
         few = omega arith;
-        grown = grown_none p₀ n (8 * 0 + 3 * passed (length s) left) w;
-        left_is = λ hs f st l g. (l, hs, fits_left (length (part segs holes s)) s holes hs left e f, g, refl);
+        grown = grown_none p₀ n (8 * 0 + 3 * passed (length holes) left) w;
+        left_is = λ hs f st l g. (l, hs, fits_left (length segs) holes hs left e f, g, refl);
       }
 
   -- where the border is stretched to
-  module _ (whole_in : holes ≤ length s) (ee : end ≡ max to (length (part segs holes s))) where
-    end_length : length (stretch_to (part segs holes s) to) ≡ end
-    end_length = stretch_length (part segs holes s) to ∙ omega arith
+  module _ (ee : end ≡ max to (length segs)) where
+    end_length : length (stretch_to segs to) ≡ end
+    end_length = stretch_length segs to ∙ omega arith
 
-    pub end_most : end ≤ length s + to
-    end_most = omega (arith, part_length segs holes s whole_in)
+    pub end_most : end ≤ length segs + to
+    end_most = omega arith
 
-    pub own_length : length (part segs holes s) ≤ end
+    pub own_length : length segs ≤ end
     own_length = omega arith
 
     module _ (out : List ℕ) (p : Line) (pos : ℕ) (left : List RawHole) (w : Drawing out p pos left) where
       module _ (place m b l : ℕ) (t : List ℕ) (more : List RawHole) (em : m ≡ min place end) (eb : b ≡ max pos m) (x : left ≡ punched place (whole l t) ∷ more) where
         -- a hole
-        pub draw_piece_room : (q : Line) → Within p₀ (drawn_most (length s) to) → LineGrown p q (4 + 8 * (b - pos)) → Within q (13 + 3 * length t)
+        pub draw_piece_room : (q : Line) → Within p₀ (drawn_most (length segs + length holes) to) → LineGrown p q (4 + 8 * (b - pos)) → Within q (4 + 3 * length t)
         draw_piece_room q ww g =
-            let d = passed (length s) left in
+            let d = passed (length holes) left in
             let most = begin_most pos place end m b (2 * d) em eb w.few in
-            within_on p₀ q (8 * b + 3 * d + 4) (13 + 3 * length t) (drawn_most (length s) to) ww
+            within_on p₀ q (8 * b + 3 * d + 4) (4 + 3 * length t) (drawn_most (length segs + length holes) to) ww
             (grown_on p₀ p q (8 * pos + 3 * d) (4 + 8 * (b - pos)) (8 * b + 3 * d + 4) w.grown g (sum_segments pos b d (begin_low pos m b eb)))
-            (room_piece b d (length t) (length s) to end most end_most (passed_hole (length s) place l t left more w.inside x).all_fit)
+            (room_piece b d (length t) (length segs) (length holes) to end most end_most (passed_hole (length holes) place l t left more w.inside x).all_fit)
 
-        module _ (c : ℕ) (out1 out2 : List ℕ) (p1 p2 : Line) (g1 : LineGrown p p1 (4 + 8 * (b - pos))) (d1 : DrawsPart out p a (part segs holes s) pos b out1 p1)
-            (g2 : LineGrown p1 p2 (9 + 3 * length t)) (d2 : PushesPiece out1 p1 a l t shown out2 p2)
-            (fc : c ≤ 2 * length t) (ec : CountsPiece l t c) where
-          next_few : b + c ≤ end + 2 * passed (length s) more
+        module _ (c : ℕ) (out1 out2 : List ℕ) (p1 p2 : Line) (g1 : LineGrown p p1 (4 + 8 * (b - pos))) (d1 : DrawsPart out p a segs pos b out1 p1)
+            (g2 : LineGrown p1 p2 (3 + 3 * length t)) (d2 : PushesPiece out1 p1 a (whole l t) shown out2 p2)
+            (fc : c ≤ 2 * length t) (ec : CountsPiece (whole l t) c) where
+          next_few : b + c ≤ end + 2 * passed (length holes) more
           next_few =
-              let d = passed (length s) left in
-              few_next b c d (passed (length s) more) (length t) end (begin_most pos place end m b (2 * d) em eb w.few) fc
-              (passed_hole (length s) place l t left more w.inside x).on
+              let d = passed (length holes) left in
+              few_next b c d (passed (length holes) more) (length t) end (begin_most pos place end m b (2 * d) em eb w.few) fc
+              (passed_hole (length holes) place l t left more w.inside x).on
 
-          next_grown : LineGrown p₀ p2 (8 * (b + c) + 3 * passed (length s) more)
+          next_grown : LineGrown p₀ p2 (8 * (b + c) + 3 * passed (length holes) more)
           next_grown =
-              let d = passed (length s) left in
-              grown_on p₀ p1 p2 (8 * b + 3 * d + 4) (9 + 3 * length t) (8 * (b + c) + 3 * passed (length s) more)
+              let d = passed (length holes) left in
+              grown_on p₀ p1 p2 (8 * b + 3 * d + 4) (3 + 3 * length t) (8 * (b + c) + 3 * passed (length holes) more)
               (grown_on p₀ p p1 (8 * pos + 3 * d) (4 + 8 * (b - pos)) (8 * b + 3 * d + 4) w.grown g1 (sum_segments pos b d (begin_low pos m b eb)))
-              g2 (grown_next b c d (passed (length s) more) (length t) (passed_hole (length s) place l t left more w.inside x).on)
+              g2 (grown_next b c d (passed (length holes) more) (length t) (passed_hole (length holes) place l t left more w.inside x).on)
 
           -- one hole on
           pub draw_on : length out2 ≡ length out₀ → Drawing out2 p2 (b + c) more
           unfolding into_tagged_from
           draw_on same =
               record {
-                inside = (passed_hole (length s) place l t left more w.inside x).size;
+                inside = (passed_hole (length holes) place l t left more w.inside x).size;
                 size = same;
                 few = next_few;
                 grown = next_grown;
                 left_is = λ hs fits st₀ l₀ held.
                     let (m₁, rs, fr, hm, eq) = w.left_is hs fits st₀ l₀ held in
-                    let f = fits_first (length (part segs holes s)) place l t left more rs x fr in
-                    let S = stretch_to (part segs holes s) to in
+                    let f = fits_first (length segs) place l t left more rs x fr in
+                    let S = stretch_to segs to in
                     let hp = f.one.place in
                     let q = f.one.piece in
                     let inner : hp ≤ end = omega (arith, f.ends, own_length) in
@@ -236,17 +242,17 @@ module _ (out₀ : List ℕ) (p₀ : Line) (a : ℕ) (s : List ℕ) (segs holes 
               }
 
       -- a rest that is no hole is not there
-      pub draw_torn : (more : List RawHole) → left ≡ torn ∷ more → DrawsHoles out₀ p₀ a s segs holes to shown out p
+      pub draw_torn : (more : List RawHole) → left ≡ torn ∷ more → DrawsWalk out₀ p₀ a segs holes to shown out p
       draw_torn more x hs fits st l held =
           let (m, rs, fr, hm, eq) = w.left_is hs fits st l held in absurd (read_torn more rs (rw x at fr.reads))
 
       -- past the last hole
-      pub draw_end : (out1 : List ℕ) (p1 : Line) → left ≡ [] → DrawsPart out p a (part segs holes s) pos end out1 p1
-          → DrawsHoles out₀ p₀ a s segs holes to shown out1 p1
+      pub draw_end : (out1 : List ℕ) (p1 : Line) → left ≡ [] → DrawsPart out p a segs pos end out1 p1
+          → DrawsWalk out₀ p₀ a segs holes to shown out1 p1
       unfolding into_tagged_from
       draw_end out1 p1 x d hs fits st l held =
           let (m, rs, fr, hm, eq) = w.left_is hs fits st l held in
-          let S = stretch_to (part segs holes s) to in
+          let S = stretch_to segs to in
           let far : end - pos ≤ length S - pos = rw end_length (omega arith) in
           let rest : part pos end S ≡ drop pos S = take_all (end - pos) (drop pos S) (rw (length-drop, end_length) (omega arith)) in
           let done : push_str m a (to_string (drop pos S)) ≡ into_tagged_from a S l 0 (map (shown_hole shown a) hs) =
@@ -285,14 +291,14 @@ holed_walk a segs l pos (h ∷ hs) e =
     ∙ push_twice (push_str l a X) a Y Z
     ∙ push_twice l a X (Y ++ Z)
 
-pub pushed_holed : (out out' : List ℕ) (p r : Line) (c : ℕ) (s : List ℕ) (segs holes to : ℕ) → DrawsHoles out p c s segs holes to AsText out' r
-    → PushesHoled out p c s segs holes to out' r
-pushed_holed out out' p r c s segs holes to d a ss hs b ok apart st l h =
+pub pushed_holed : (out out' : List ℕ) (p r : Line) (c : ℕ) (border : Border) (to : ℕ) → DrawsHoles out p c border to AsText out' r
+    → PushesHoled out p c border to out' r
+pushed_holed out out' p r c border to d a ss hs b ok apart st l h =
     rw (← holed_walk c (stretch_to ss to) l 0 hs apart)
     (rw b.segments at (d hs (record { reads = b.punched; within = rw b.segments b.within; readable = ok }) st l h))
 
-pub pushed_tagged : (out out' : List ℕ) (p r : Line) (c : ℕ) (s : List ℕ) (segs holes to : ℕ) → c ≡ get_or s 0 0 → DrawsHoles out p c s segs holes to AsItStands out' r
-    → PushesTagged out p s segs holes to out' r
-pushed_tagged out out' p r c s segs holes to ec d a ss hs b ok st l h =
-    rw (as_stands c hs, b.segments, ec ∙ b.annotation)
+pub pushed_tagged : (out out' : List ℕ) (p r : Line) (border : Border) (to : ℕ) → DrawsHoles out p border.annotation border to AsItStands out' r
+    → PushesTagged out p border to out' r
+pushed_tagged out out' p r border to d a ss hs b ok st l h =
+    rw (as_stands border.annotation hs, b.segments, b.annotation)
     at (d hs (record { reads = b.punched; within = rw b.segments b.within; readable = ok }) st l h)

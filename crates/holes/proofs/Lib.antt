@@ -4,3 +4,4 @@ pub mod Segments
 pub mod DrawLaws
 pub mod WidthLaws
 pub mod LineLaws
+pub mod TellLaws

@@ -8,7 +8,7 @@ use mathlib.Core.List.{List, [], ◌∷◌}
 use Prim.Native.Nat.{ℕ, ◌+◌, ◌-◌, ◌*◌, ◌≤◌, ◌<◌, max}
 use native.Mathlib.Omega.{arith}
 use lib.Dec.{leb, ltb, eqb}
-use lib.ListN.{length, take, drop, replicate, length-append, length-drop}
+use lib.ListN.{length, take, drop, replicate, length-append}
 use borrow.Author.Tests.{le-leb, lt-ltb, le-ltb, eq-eqb, ne_eqb}
 use Rattle.std.proofs.Common.{Option as Maybe, unwrap_or}
 use Rattle.std.specs.Option.{is_some}
@@ -16,25 +16,25 @@ use Rattle.std.specs.Bool.{then_some}
 use Rattle.characters.specs.Utf8.{text_bytes}
 use Rattle.characters.proofs.Tests.{by_if, lt_or_le}
 use Rattle.fields.specs.Field.{Raw, whole, broken, raws_f, raws, both, read_all, part, all}
-use Rattle.fields.specs.Sheet.{Piece, str, fragment, read_str, read_piece, readable_piece, is_segment}
+use Rattle.fields.specs.Sheet.{Piece, str, fragment, read_str, read_piece, is_segment}
 use Rattle.fields.specs.Widths.{width}
-use Rattle.fields.proofs.Parts.{part_length}
 use Rattle.fields.proofs.Back.{Every}
 use Rattle.fields.proofs.Fields.{raws_nil}
 use Rattle.fields.proofs.Readings.{read_none, read_size}
 use Rattle.borders.specs.BorderHoriz.{stretch_to, to_string, up_to_hole, into_tagged_from, border_into_tagged_line}
-use Rattle.fields.specs.TaggedLine.{WellFormedPiece, join, push_str, push, push_ws, pad_to}
-use Rattle.rows.proofs.Reading.{OnSome, some_of, every_from}
-use Rattle.rows.proofs.Lines.{push_width, spaces_formed, spaces_width}
+use Rattle.fields.specs.TaggedLine.{WellFormedPiece, push_str, push, push_ws, pad_to}
+use Rattle.rows.proofs.Reading.{OnSome, some_of}
+use Rattle.rows.proofs.Lines.{push_width, spaces_formed, spaces_width, join_long}
 use Rattle.fields.specs.Spans.{Hole, hole, RawHole, punched, torn, raw_holes_f, raw_holes, read_hole, read_holes, RenderLine, text, border, ends_within, holed, read_holed, read_border, read_line}
 use Rattle.rows.specs.SubRenderer.{filled}
-use Rattle.places.specs.Border.{FindsParts}
-use Rattle.places.specs.declared.border.Parts.{Parts}
+use Rattle.places.specs.Border.{ReadsBorder}
+use Rattle.places.specs.declared.border.Border.{Border}
 use Rattle.places.proofs.HolesLaws.{holes_none, read_no_holes}
 use Rattle.tagged_line.specs.Pieces.{PiecesOf}
+use Rattle.tagged_line.proofs.Laying.{all_formed}
 use Rattle.holes.specs.Cols.{Counts, CountsPieces, walk_end, EndsAt, CountsText, CountsBorder, CountsLine}
 use Rattle.holes.proofs.Segments.{stretch_length}
-use Rattle.holes.proofs.WidthLaws.{formed, walk_width}
+use Rattle.holes.proofs.WidthLaws.{walk_width}
 
 -- ---- bytes that are not empty hold a field
 
@@ -57,18 +57,11 @@ holes_some (p ∷ q ∷ l ∷ x ∷ o ∷ bs) h =
 
 -- ---- a line that something is pushed to
 
-joined_some : (l : List Piece) (a : ℕ) (t : List ℕ) → 1 ≤ length (join l a t)
-unfolding join
-joined_some [] a t = omega arith
-joined_some (fragment n ∷ []) a t = omega arith
-joined_some (str b s ∷ []) a t = by_if (λ (m : List Piece). 1 ≤ length m) (eqb b a) (λ _. omega arith) (λ _. omega arith)
-joined_some (p ∷ q ∷ l) a t = omega arith
-
 -- it keeps its pieces
 push_str_some : (l : List Piece) (a : ℕ) (t : List ℕ) → 1 ≤ length l → 1 ≤ length (push_str l a t)
 unfolding push_str
 push_str_some l a [] h = h
-push_str_some l a (b ∷ t) h = joined_some l a (b ∷ t)
+push_str_some l a (b ∷ t) h = join_long l a (b ∷ t)
 
 push_some : (l : List Piece) (q : Piece) → 1 ≤ length l → 1 ≤ length (push l q)
 unfolding push
@@ -83,7 +76,7 @@ lays_str : (t : List ℕ) → OnSome Lays (read_str t)
 unfolding push push_str
 lays_str [] = tt
 lays_str (a ∷ []) = tt
-lays_str (a ∷ b ∷ t) = λ l. joined_some l a (b ∷ t)
+lays_str (a ∷ b ∷ t) = λ l. join_long l a (b ∷ t)
 
 -- one that was read does
 lays_read : (r : Raw) → OnSome Lays (read_piece r)
@@ -170,7 +163,7 @@ no_pieces (b ∷ s) ps h e = absurd (omega arith)
 pub text_counts : (s : List ℕ) (to own cols : ℕ) (r : Maybe ℕ) → CountsPieces s own → cols ≡ max own to → r ≡ then_some (ltb 0 (length s + to)) cols
     → CountsText s to r
 text_counts s to own cols r c ec ep a ps e ok =
-    let f = every_from WellFormedPiece readable_piece formed ps ok in
+    let f = all_formed ps ok in
     let w = pad_width ps to a f in
     counted (pad_to ps to a) r (ltb 0 (length s + to)) cols ep (omega (arith, ec, c ps e, w))
     (some_test (length s + to) (pad_to ps to a) (has_piece w) has_none)
@@ -198,36 +191,37 @@ unfolding walk_end
 end_plain end = omega arith
 
 -- THE COLUMNS OF A STRETCHED BORDER, AND ITS PIECES.
-pub border_counts : (s : List ℕ) (segs holes to end cols : ℕ) (r : Maybe ℕ) → holes ≤ length s → end ≡ max to (holes - segs)
-    → EndsAt s holes end cols → r ≡ then_some (ltb 0 (length s - holes + end)) cols → CountsBorder s segs holes to r
+pub border_counts : (given : Border) (to end cols : ℕ) (r : Maybe ℕ) → end ≡ max to (length given.segments.now)
+    → EndsAt given.holes.now end cols → r ≡ then_some (ltb 0 (length given.holes.now + end)) cols → CountsBorder given to r
 unfolding width
-border_counts s segs holes to end cols r k ee c ep a ss hs b ok =
-    let n : length ss ≡ holes - segs = sym (ap length b.segments) ∙ part_length segs holes s k in
+border_counts given to end cols r ee c ep a ss hs b ok =
+    let n : length ss ≡ length given.segments.now = sym (ap length b.segments) in
     let m : length (stretch_to ss to) ≡ end = stretch_length ss to ∙ omega (arith, n, ee) in
     let long : length ss ≤ end = omega (arith, n, ee) in
     let w : width (into_tagged_from a (stretch_to ss to) [] 0 hs) ≡ walk_end end 0 hs =
     walk_width a (stretch_to ss to) (length ss) [] 0 hs (omega (arith, m, long)) b.within ok tt refl ∙ ap (λ (i : ℕ). walk_end i 0 hs) m in
-    counted (into_tagged_from a (stretch_to ss to) [] 0 hs) r (ltb 0 (length s - holes + end)) cols ep
+    counted (into_tagged_from a (stretch_to ss to) [] 0 hs) r (ltb 0 (length given.holes.now + end)) cols ep
     (c (length ss) hs (record { reads = b.punched; within = b.within; readable = ok }) long ∙ sym w)
-    (some_test (length s - holes + end) (into_tagged_from a (stretch_to ss to) [] 0 hs) (has_piece m w) (has_none m))
+    (some_test (length given.holes.now + end) (into_tagged_from a (stretch_to ss to) [] 0 hs) (has_piece m w) (has_none m))
   where
     -- no bytes behind the segments, no holes
-    none_left : length s ≤ holes → hs ≡ []
-    none_left h = read_no_holes hs (rw (holes_none (drop holes s) (simp length-drop (omega arith))) at b.punched.reads)
+    none_left : length given.holes.now ≡ 0 → hs ≡ []
+    none_left h = read_no_holes hs (rw (holes_none given.holes.now h) at b.punched.reads)
 
     -- without holes the columns are the segments
-    plain : length s ≤ holes → walk_end end 0 hs ≡ end
+    plain : length given.holes.now ≡ 0 → walk_end end 0 hs ≡ end
     plain h = ap (walk_end end 0) (none_left h) ∙ end_plain end
 
-    has_piece : length (stretch_to ss to) ≡ end → width (into_tagged_from a (stretch_to ss to) [] 0 hs) ≡ walk_end end 0 hs → 0 < length s - holes + end
+    has_piece : length (stretch_to ss to) ≡ end → width (into_tagged_from a (stretch_to ss to) [] 0 hs) ≡ walk_end end 0 hs → 0 < length given.holes.now + end
         → 1 ≤ length (into_tagged_from a (stretch_to ss to) [] 0 hs)
     has_piece m w h =
         ⊎_elim
-        (λ (x : holes < length s). tagged_holes a (stretch_to ss to) hs (some_of LaysFirst (read_holes (raw_holes (drop holes s))) hs b.punched.reads
-        (lays_first (raw_holes (drop holes s)) (holes_some (drop holes s) (simp length-drop (omega arith))))))
-        (λ (x : length s ≤ holes). wide_some (into_tagged_from a (stretch_to ss to) [] 0 hs) (omega (arith, w, plain x))) (lt_or_le holes (length s))
+        (λ (x : 0 < length given.holes.now). tagged_holes a (stretch_to ss to) hs (some_of LaysFirst (read_holes (raw_holes given.holes.now)) hs b.punched.reads
+        (lays_first (raw_holes given.holes.now) (holes_some given.holes.now x))))
+        (λ (x : length given.holes.now ≤ 0). let z : length given.holes.now ≡ 0 = omega arith in wide_some (into_tagged_from a (stretch_to ss to) [] 0 hs) (omega (arith, w, plain z)))
+        (lt_or_le 0 (length given.holes.now))
 
-    has_none : length (stretch_to ss to) ≡ end → length s - holes + end ≡ 0 → into_tagged_from a (stretch_to ss to) [] 0 hs ≡ []
+    has_none : length (stretch_to ss to) ≡ end → length given.holes.now + end ≡ 0 → into_tagged_from a (stretch_to ss to) [] 0 hs ≡ []
     has_none m h = ap (into_tagged_from a (stretch_to ss to) [] 0) (none_left (omega arith)) ∙ tagged_nothing a (stretch_to ss to) (omega (arith, m))
 
 -- ---- a line
@@ -241,13 +235,13 @@ no_border none a ss hs e = let z : ◌≡◌ {A = ℕ} 0 1 = cc in omega arith
 no_border (some x) a ss hs e = let z : ◌≡◌ {A = ℕ} 0 1 = cc in omega arith
 
 -- an L field is a text
-pub text_line : (l : ℕ) (s : List ℕ) (to : ℕ) (r : Maybe ℕ) → l ≡ 0x4C → CountsText s to r → CountsLine l s to r
+pub text_line : (l : ℕ) (s : List ℕ) (to : ℕ) (r : Maybe ℕ) → l ≡ 0x4C → CountsText s to r → CountsLine (whole l s) to r
 unfolding read_line filled
 text_line l s to r h c (text ps) o e ok = c o.annotation ps (read_text_lem (read_all read_piece (raws s)) ps (rw (eq-eqb l 0x4C h) at e)) ok
 text_line l s to r h c (border a ss hs) o e ok = absurd (no_border (read_all read_piece (raws s)) a ss hs (rw (eq-eqb l 0x4C h) at e))
 
 -- a line that is a border
-abbrev IsBorder : RenderLine → Type 0
+abbrev pub IsBorder : RenderLine → Type 0
 IsBorder (text ps) = ⊥
 IsBorder (border a ss hs) = Unit {0}
 
@@ -269,15 +263,15 @@ holed_border_lem (a ∷ x ∷ o ∷ s) =
     by_if (OnSome IsBorder) (leb (x * 256 + o) (length s))
     (λ _. punched_border a (take (x * 256 + o) s) (read_holes (raw_holes (drop (x * 256 + o) s)))) (λ _. tt)
 
-line_border : (l : ℕ) (s : List ℕ) → (l ≡ 0x4C → ⊥) → OnSome IsBorder (read_line (whole l s))
+pub line_border : (l : ℕ) (s : List ℕ) → (l ≡ 0x4C → ⊥) → OnSome IsBorder (read_line (whole l s))
 unfolding read_line
 line_border l s n =
     rw (ne_eqb l 0x4C n)
     (by_if (OnSome IsBorder) (eqb l 0x42) (λ _. plain_border_lem s) (λ _. by_if (OnSome IsBorder) (eqb l 0x47) (λ _. holed_border_lem s) (λ _. tt)))
 
 -- another is a border
-pub border_line : (l : ℕ) (s : List ℕ) (to : ℕ) (p : Parts) (r : Maybe ℕ) → (l ≡ 0x4C → ⊥) → FindsParts l s p → CountsBorder s p.segs p.holes to r
-    → CountsLine l s to r
+pub border_line : (l : ℕ) (s : List ℕ) (to : ℕ) (p : Border) (r : Maybe ℕ) → (l ≡ 0x4C → ⊥) → ReadsBorder l s p → CountsBorder p to r
+    → CountsLine (whole l s) to r
 unfolding filled border_into_tagged_line
 border_line l s to p r n f c (text ps) o e ok = absurd (some_of IsBorder (read_line (whole l s)) (text ps) e (line_border l s n))
 border_line l s to p r n f c (border a ss hs) o e ok = c a ss hs (f a ss hs e) ok

@@ -13,7 +13,7 @@ use lib.Seq.{ext_get_or, get_or-append-add, get_or-take, get_or-drop}
 use borrow.Author.Tests.{eq-eqb, ne_eqb, lt-ltb, le-ltb}
 use Rattle.std.specs.Prelude.{if◌then◌else◌}
 use Rattle.characters.proofs.Tests.{by_if, lt_or_le}
-use Rattle.fields.specs.Field.{whole, raws, read_all, part, all}
+use Rattle.fields.specs.Field.{whole, part}
 use Rattle.fields.specs.Sheet.{Piece, str, fragment, read_str, read_piece, readable_piece}
 use Rattle.fields.specs.Text.{readable_text}
 use Rattle.fields.specs.Widths.{text_width, piece_width}
@@ -23,11 +23,11 @@ use Rattle.borders.specs.declared.draw.Drawing.TheVariants.{Segments}
 use Rattle.borders.specs.BorderSegHoriz.{Horiz}
 use Rattle.borders.specs.BorderHoriz.{stretch_to, to_string, drawn, as_str, up_to_hole, at_hole}
 use Rattle.borders.proofs.Drawing.{drawn_string, drawn_nil}
-use Rattle.fields.specs.TaggedLine.{push_str, push, add_piece, add_pieces}
+use Rattle.fields.specs.TaggedLine.{push_str, push, add_piece}
 use Rattle.rows.proofs.Reading.{OnSome, some_of}
 use Rattle.rows.proofs.Lines.{text_width_nil, readable_formed}
 use Rattle.tagged_line.specs.Held.{Pushes, Draws}
-use Rattle.tagged_line.specs.Pieces.{AddsPieces}
+use Rattle.tagged_line.specs.Pieces.{AddsPiece}
 use Rattle.tagged_line.specs.declared.line.Line.{Line}
 use Rattle.holes.specs.declared.draw.Shown.{Shown}
 use Rattle.holes.specs.declared.draw.Shown.TheVariants.{AsText, AsItStands}
@@ -142,7 +142,7 @@ text_of (a ∷ []) = tt
 text_of (a ∷ b ∷ t) = (refl, refl)
 
 pub text_pushed : (out out' : List ℕ) (p r : Line) (a l c : ℕ) (t : List ℕ) → l ≡ 0x53 → c ≡ text_width (take (length t - 1) (drop 1 t))
-    → Pushes out p a (take (length t - 1) (drop 1 t)) c out' r → PushesText out p a l t out' r
+    → Pushes out p a (take (length t - 1) (drop 1 t)) c out' r → PushesText out p a (whole l t) out' r
 unfolding read_piece
 text_pushed out out' p r a l c t el ec f q e ok st m h =
     let (et, er) = some_of (TextOf t) (read_str t) q (rw (eq-eqb l 0x53 el) at e) (text_of t) in
@@ -151,7 +151,7 @@ text_pushed out out' p r a l c t el ec f q e ok st m h =
 no_text : (l : ℕ) (t : List ℕ) → OnSome (λ (q : Piece). as_str q ≡ []) (if eqb l 0x46 then some (fragment t) else none)
 no_text l t = by_if (OnSome (λ (q : Piece). as_str q ≡ [])) (eqb l 0x46) (λ _. refl) (λ _. tt)
 
-pub name_pushed : (out : List ℕ) (p : Line) (a l : ℕ) (t : List ℕ) → (l ≡ 0x53 → ⊥) → PushesText out p a l t out p
+pub name_pushed : (out : List ℕ) (p : Line) (a l : ℕ) (t : List ℕ) → (l ≡ 0x53 → ⊥) → PushesText out p a (whole l t) out p
 unfolding read_piece push_str
 name_pushed out p a l t n q e ok st m g =
     rw (some_of (λ (x : Piece). as_str x ≡ []) (if eqb l 0x46 then some (fragment t) else none) q (rw (ne_eqb l 0x53 n) at e) (no_text l t)) g
@@ -161,7 +161,7 @@ empty_text : (l : ℕ) → OnSome (λ (q : Piece). as_str q ≡ []) (read_piece 
 unfolding read_piece
 empty_text l = by_if (OnSome (λ (q : Piece). as_str q ≡ [])) (eqb l 0x53) (λ _. tt) (λ _. no_text l [])
 
-pub text_empty : (out : List ℕ) (p : Line) (a l : ℕ) (t : List ℕ) → length t < 1 → PushesText out p a l t out p
+pub text_empty : (out : List ℕ) (p : Line) (a l : ℕ) (t : List ℕ) → length t < 1 → PushesText out p a (whole l t) out p
 unfolding push_str
 text_empty out p a l [] h q e ok st m g = rw (some_of (λ (x : Piece). as_str x ≡ []) (read_piece (whole l [])) q e (empty_text l)) g
 text_empty out p a l (b ∷ t) h q e ok st m g = absurd (omega arith)
@@ -169,16 +169,14 @@ text_empty out p a l (b ∷ t) h q e ok st m g = absurd (omega arith)
 -- ---- a hole
 
 pub piece_text : (out out' : List ℕ) (p r : Line) (a l : ℕ) (t : List ℕ) (shown : Shown) → shown ≡ AsText
-    → PushesText out p a l t out' r → PushesPiece out p a l t shown out' r
+    → PushesText out p a (whole l t) out' r → PushesPiece out p a (whole l t) shown out' r
 unfolding push
 piece_text out out' p r a l t shown e f q eq ok st m h = rw e (f q eq ok st m h)
 
-pub piece_stands : (out out' : List ℕ) (p r : Line) (a l : ℕ) (t field : List ℕ) (shown : Shown) → shown ≡ AsItStands → raws field ≡ whole l t ∷ []
-    → AddsPieces out p field true true out' r → PushesPiece out p a l t shown out' r
-unfolding add_pieces add_piece read_all all
-piece_stands out out' p r a l t field shown e w f q eq ok st m h =
-    let pieces : read_all read_piece (raws field) ≡ some (q ∷ []) = rw (w, read_all) (rw eq) in
-    rw e (f (q ∷ []) pieces (rw ok) st m h)
+pub piece_stands : (out out' : List ℕ) (p r : Line) (a l : ℕ) (t : List ℕ) (shown : Shown) → shown ≡ AsItStands
+    → AddsPiece out p (whole l t) true out' r → PushesPiece out p a (whole l t) shown out' r
+unfolding add_piece
+piece_stands out out' p r a l t shown e f q eq ok st m h = rw e (f q eq ok st m h)
 
 -- a hole shown either way has the same columns
 pub shown_width : (shown : Shown) (a : ℕ) (q : Piece) → piece_width (shown_piece shown a q) ≡ piece_width q

@@ -2,7 +2,7 @@
 -- Assumes nothing: these are definitions.
 use Rattle.std.specs.Prelude.{◌≡◌, true, List, [], ◌∷◌, ℕ, ◌+◌, ◌-◌, ◌≤◌, Option, Some, None}
 use Rattle.std.proofs.Math.Option.{some}
-use Rattle.fields.specs.Field.{whole, all}
+use Rattle.fields.specs.Field.{Raw, all}
 use Rattle.fields.specs.Sheet.{Piece, read_piece, readable_piece}
 use Rattle.fields.specs.Widths.{piece_width, width}
 use Rattle.borders.specs.BorderHoriz.{stretch_to, at_hole, into_tagged_from}
@@ -10,13 +10,14 @@ use Rattle.fields.specs.TaggedLine.{pad_to}
 use Rattle.rows.specs.declared.RenderOptions.{RenderOptions}
 use Rattle.fields.specs.Spans.{Hole, RenderLine, read_line, readable_hole, readable_line}
 use Rattle.rows.specs.SubRenderer.{into_tagged_line, filled}
-use Rattle.places.specs.Border.{BorderAt}
+use Rattle.places.specs.Border.{BorderIs}
+use Rattle.places.specs.declared.border.Border.{Border}
 use Rattle.tagged_line.specs.Pieces.{PiecesOf}
 use Rattle.holes.specs.Drawing.{Fits}
 
 -- `piece_cols`
-abbrev pub CountsPiece : ℕ → List ℕ → ℕ → Type 0
-CountsPiece letter t r = (q : Piece) → read_piece (whole letter t) ≡ some q → r ≡ piece_width q
+abbrev pub CountsPiece : Raw → ℕ → Type 0
+CountsPiece field r = (q : Piece) → read_piece field ≡ some q → r ≡ piece_width q
 
 -- `pieces_width`
 abbrev pub CountsPieces : List ℕ → ℕ → Type 0
@@ -28,8 +29,8 @@ walk_end end pos [] = pos + (end - pos)
 walk_end end pos (h ∷ hs) = walk_end end (at_hole pos h.place + piece_width h.piece) hs
 
 -- `walk_end`
-abbrev pub EndsAt : List ℕ → ℕ → ℕ → ℕ → Type 0
-EndsAt s holes end r = (n : ℕ) (hs : List Hole) → Fits n s holes hs → n ≤ end → r ≡ walk_end end 0 hs
+abbrev pub EndsAt : List ℕ → ℕ → ℕ → Type 0
+EndsAt holes end r = (n : ℕ) (hs : List Hole) → Fits n holes hs → n ≤ end → r ≡ walk_end end 0 hs
 
 -- the columns of pieces, if there is at least one
 abbrev pub cols_of : List Piece → Option ℕ
@@ -45,12 +46,12 @@ abbrev pub CountsText : List ℕ → ℕ → Option ℕ → Type 0
 CountsText s to r = (a : ℕ) (ps : List Piece) → PiecesOf s ps → all readable_piece ps ≡ true → Counts r (pad_to ps to a)
 
 -- `border_cols`: of the border stretched to a width
-abbrev pub CountsBorder : List ℕ → ℕ → ℕ → ℕ → Option ℕ → Type 0
-CountsBorder s segs holes to r =
-    (a : ℕ) (ss : List ℕ) (hs : List Hole) → BorderAt s segs holes a ss hs → all readable_hole hs ≡ true
+abbrev pub CountsBorder : Border → ℕ → Option ℕ → Type 0
+CountsBorder border to r =
+    (a : ℕ) (ss : List ℕ) (hs : List Hole) → BorderIs border a ss hs → all readable_hole hs ≡ true
     → Counts r (into_tagged_from a (stretch_to ss to) [] 0 hs)
 
 -- `line_cols`: of the line that a field is, filled to a width
-abbrev pub CountsLine : ℕ → List ℕ → ℕ → Option ℕ → Type 0
-CountsLine letter s to r =
-    (l : RenderLine) (o : RenderOptions) → read_line (whole letter s) ≡ some l → readable_line l ≡ true → Counts r (into_tagged_line (filled o to l))
+abbrev pub CountsLine : Raw → ℕ → Option ℕ → Type 0
+CountsLine field to r =
+    (l : RenderLine) (o : RenderOptions) → read_line field ≡ some l → readable_line l ≡ true → Counts r (into_tagged_line (filled o to l))

@@ -1,98 +1,121 @@
-// A border of n segments of which the buffer has the first ones (`Keeps`); each method answers how many segments there are after it.
-ghost use Rattle.std.specs.Prelude.{◌≡◌, ◌+◌, ◌^◌, ◌≤◌, ◌<◌, max, length};
+// A border of some segments over a lent buffer that has the first ones of them (`Keeps`).
+ghost use Rattle.std.specs.Prelude.{◌≡◌, ◌+◌, ◌^◌, ◌≤◌, ◌<◌, max, length, take, MatchOption};
 ghost use Rattle.long_borders.specs.Keeps.{Fills, Copies, Stretches, ChangesBy, ChopsBefore, JoinsOn, MergesFrom, Cuts};
 
 use borders::border::Side;
 use borders::segment::{BorderSegHoriz, HORIZ};
 
-// `new_type`: w segments of one kind.
-pub fn new_type(border: &mut [u8], w: usize, segment: u8) -> usize
-    ensures value { (result ≡ w) × (length border.new ≡ length border.old) }
-    ensures fills { Fills border.old w segment border.new result }
-{
-    let end = w.min(border.len());
-    border[..end].fill(segment);
-    w
+// A lent buffer, and how many segments the border has.
+#[derive(Drop)]
+pub struct BorderHoriz<'a> {
+    pub buffer: &'a mut [u8],
+    pub len: usize,
 }
 
-// The segments of a border that stands in bytes.
-pub fn set_segs(border: &mut [u8], segs: &[u8]) -> usize
-    ensures value { (result ≡ length segs.now) × (length border.new ≡ length border.old) }
-    ensures copies { Copies border.old segs.now border.new result }
-{
-    let end = segs.len().min(border.len());
-    border[..end].copy_from_slice(&segs[..end]);
-    segs.len()
-}
-
-// `stretch_to`: Horiz up to a width, if the border is not as wide.
-pub fn stretch_to(border: &mut [u8], n: usize, w: usize) -> usize
-    ensures value { (result ≡ max n w) × (length border.new ≡ length border.old) }
-    ensures stretches { Stretches border.old n w border.new result }
-{
-    let end = w.min(border.len());
-    if n < end {
-        border[n..end].fill(HORIZ);
+impl<'a> BorderHoriz<'a> {
+    // `new_type`: segments of one kind up to a width.
+    pub fn new(buffer: &'a mut [u8], width: usize, segment: u8) -> Self
+        ensures room { length result.buffer.now ≡ length buffer.old }
+        ensures len { result.len ≡ width }
+        ensures fills { Fills width segment result }
+    {
+        let end = width.min(buffer.len());
+        buffer[..end].fill(segment);
+        BorderHoriz { buffer, len: width }
     }
-    n.max(w)
-}
 
-// The segment at a place changed, if there is one; a byte that is no segment stays.
-fn change_at<F: FnOnce(BorderSegHoriz) -> BorderSegHoriz>(border: &mut [u8], x: usize, change: F)
-    requires { F.IsAlwaysCallable change }
-    ensures border_len_unchanged { length border.new ≡ length border.old }
-    ensures changes_by { ChangesBy (F.post change) border.old x border.new }
-{
-    if x < border.len() {
-        if let Ok(segment) = BorderSegHoriz::try_from(border[x]) {
-            border[x] = u8::from(change(segment));
+    // The border of segments that stand in bytes.
+    pub fn from_segments(buffer: &'a mut [u8], segments: &[u8]) -> Self
+        ensures room { length result.buffer.now ≡ length buffer.old }
+        ensures len { result.len ≡ length segments.now }
+        ensures copies { Copies segments.now result }
+    {
+        let end = segments.len().min(buffer.len());
+        buffer[..end].copy_from_slice(&segments[..end]);
+        BorderHoriz {
+            buffer,
+            len: segments.len(),
         }
     }
-}
 
-// `chop_right` of the segment before a place, if there is one.
-fn chop_before(border: &mut [u8], pos: usize)
-    ensures border_len_unchanged { length border.new ≡ length border.old }
-    ensures chops_before { ChopsBefore border.old pos border.new }
-{
-    if 0 < pos {
-        change_at(border, pos - 1, |segment| segment.chop_right());
+    // Its segments, if the buffer has all of them.
+    pub fn segments(&self) -> Option<&[u8]>
+        ensures { MatchOption result (length self.now.buffer.now < self.now.len) (λ s. (self.now.len ≤ length self.now.buffer.now) × (s.now ≡ take self.now.len self.now.buffer.now)) }
+    {
+        self.buffer.get(..self.len)
     }
-}
 
-// What `add_text_span` does to the segments beside and under a hole from pos up to rpos.
-pub fn cut_for(border: &mut [u8], n: usize, pos: usize, rpos: usize) -> usize
-    ensures value { (result ≡ max n rpos) × (length border.new ≡ length border.old) }
-    ensures cuts { Cuts border.old n pos rpos border.new result }
-{
-    let k = stretch_to(border, n, rpos);
-    chop_before(border, pos);
-    change_at(border, rpos, |segment| segment.chop_left());
-    k
-}
+    // `stretch_to`: Horiz up to a width, if the border is not as wide.
+    pub fn stretch_to(&mut self, width: usize)
+        ensures room { length self.new.buffer.now ≡ length self.old.buffer.now }
+        ensures len { self.new.len ≡ max self.old.len width }
+        ensures stretches { Stretches self.old width self.new }
+    {
+        let end = width.min(self.buffer.len());
+        if self.len < end {
+            self.buffer[self.len..end].fill(HORIZ);
+        }
+        self.len = self.len.max(width);
+    }
 
-// `join_above`, `join_below`: a join at a place, which is first reached with Horiz.
-pub fn join_on(border: &mut [u8], n: usize, x: usize, side: Side) -> usize
-    requires { x + 1 < 2 ^ 64 }
-    ensures value { (result ≡ max n (x + 1)) × (length border.new ≡ length border.old) }
-    ensures joins_on { JoinsOn side border.old n x border.new result }
-{
-    let k = stretch_to(border, n, x + 1);
-    change_at(border, x, |segment| side.joined(segment));
-    k
-}
-
-// `merge_from_above`, `merge_from_below`: another border's segments, laid from pos on.
-pub fn merge_from(border: &mut [u8], n: usize, other: &[u8], pos: usize, side: Side) -> usize
-    requires { pos + length other.now < 2 ^ 64 }
-    ensures lower_bound { (n ≤ result) × (result ≤ max n (pos + length other.now)) × (length border.new ≡ length border.old) }
-    ensures merges_from { MergesFrom side border.old n other.now pos border.new result }
-{
-    let mut k = n;
-    for (i, byte) in other.iter().enumerate() {
-        if side.joins(*byte) {
-            k = join_on(border, k, pos + i, side);
+    // The segment at a place changed, if the buffer has it; a byte that is no segment stays.
+    fn change_at<F: FnOnce(BorderSegHoriz) -> BorderSegHoriz>(&mut self, x: usize, change: F)
+        requires { F.IsAlwaysCallable change }
+        ensures room { length self.new.buffer.now ≡ length self.old.buffer.now }
+        ensures len { self.new.len ≡ self.old.len }
+        ensures changes_by { ChangesBy (F.post change) self.old x self.new }
+    {
+        if x < self.buffer.len() {
+            if let Ok(segment) = BorderSegHoriz::try_from(self.buffer[x]) {
+                self.buffer[x] = u8::from(change(segment));
+            }
         }
     }
-    k
+
+    // `chop_right` of the segment before a place, if there is one.
+    fn chop_before(&mut self, pos: usize)
+        ensures room { length self.new.buffer.now ≡ length self.old.buffer.now }
+        ensures len { self.new.len ≡ self.old.len }
+        ensures chops_before { ChopsBefore self.old pos self.new }
+    {
+        if 0 < pos {
+            self.change_at(pos - 1, |segment| segment.chop_right());
+        }
+    }
+
+    // What `add_text_span` does to the segments beside and under a hole from pos up to rpos.
+    pub fn cut_for(&mut self, pos: usize, rpos: usize)
+        ensures room { length self.new.buffer.now ≡ length self.old.buffer.now }
+        ensures len { self.new.len ≡ max self.old.len rpos }
+        ensures cuts { Cuts self.old pos rpos self.new }
+    {
+        self.stretch_to(rpos);
+        self.chop_before(pos);
+        self.change_at(rpos, |segment| segment.chop_left());
+    }
+
+    // `join_above`, `join_below`: a join at a place, which is first reached with Horiz.
+    pub fn join_on(&mut self, x: usize, side: Side)
+        requires { x + 1 < 2 ^ 64 }
+        ensures room { length self.new.buffer.now ≡ length self.old.buffer.now }
+        ensures len { self.new.len ≡ max self.old.len (x + 1) }
+        ensures joins_on { JoinsOn side self.old x self.new }
+    {
+        self.stretch_to(x + 1);
+        self.change_at(x, |segment| side.joined(segment));
+    }
+
+    // `merge_from_above`, `merge_from_below`: another border's segments, laid from pos on.
+    pub fn merge_from(&mut self, other: &[u8], pos: usize, side: Side)
+        requires { pos + length other.now < 2 ^ 64 }
+        ensures room { length self.new.buffer.now ≡ length self.old.buffer.now }
+        ensures len { (self.old.len ≤ self.new.len) × (self.new.len ≤ max self.old.len (pos + length other.now)) }
+        ensures merges_from { MergesFrom side self.old other.now pos self.new }
+    {
+        for (i, byte) in other.iter().enumerate() {
+            if side.joins(*byte) {
+                self.join_on(pos + i, side);
+            }
+        }
+    }
 }

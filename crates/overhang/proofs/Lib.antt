@@ -1,3 +1,4 @@
+pub mod BorderLaws
 pub mod FillLaws
 pub mod LinesLaws
 pub mod HangLaws

@@ -1,48 +1,41 @@
 -- The lines of a cell that hangs on, filled to its width, as they stand in a store.
 -- Assumes nothing: these are definitions.
-use Rattle.std.specs.Prelude.{◌≡◌, true, List, [], ◌∷◌, ◌++◌, map, ℕ, ◌+◌, ◌*◌, ◌≤◌, eqb, length, if◌then◌else◌}
+use Rattle.std.specs.Prelude.{◌≡◌, true, List, map, ℕ, ◌+◌, ◌*◌, ◌≤◌, length}
 use Rattle.std.proofs.Math.Option.{some}
 use Rattle.std.proofs.lemmas.List.Edits.{sets}
-use Rattle.fields.specs.Field.{two, head, field, whole, all}
+use Rattle.fields.specs.Field.{all}
+use Rattle.fields.specs.List.{whole_of}
+use Rattle.fields.specs.declared.raw.Field.{Field}
 use Rattle.fields.specs.Sheet.{Piece, readable_piece}
 use Rattle.borders.specs.BorderHoriz.{stretch_to}
 use Rattle.fields.specs.TaggedLine.{pad_to}
 use Rattle.rows.specs.declared.RenderOptions.{RenderOptions}
-use Rattle.fields.specs.Spans.{Hole, RenderLine, text, border, read_line, readable_line, content, letter, lines_bytes, readable_lines}
+use Rattle.fields.specs.Spans.{Hole, RenderLine, text, border, read_line, readable_line, lines_bytes, readable_lines}
 use Rattle.rows.specs.SubRenderer.{filled}
-use Rattle.fields.specs.Places.{LinesAt}
-use Rattle.rows.specs.Answer.{fits}
+use Rattle.fields.specs.Places.{LinesIn}
 use Rattle.tagged_line.specs.Pieces.{PiecesOf}
+use Rattle.overhang.specs.Border.{LineStands}
 
 -- numbers of a line that is put, whatever the bytes: its content had n bytes, and it is filled to a width
 pub record LineIn (at n to r : ℕ) : Type 0 where
   pub on : at ≤ r
   pub most : r ≤ at + 7 + 3 * n + 2 * to
 
--- a line stands in the store from a place on, unless it is too long; the place after it is right in any case
-pub record LineStands (out : List ℕ) (at : ℕ) (l : RenderLine) (out' : List ℕ) (r : ℕ) : Type 0 where
-  pub place : r ≡ at + length (field (letter l) (content l))
-  pub store : fits l ≡ true → out' ≡ sets out at (field (letter l) (content l))
-
 -- `put_text`
 abbrev pub PutsText : List ℕ → ℕ → RenderOptions → List ℕ → ℕ → List ℕ → ℕ → Type 0
 PutsText out at s bytes to out' r =
     (ps : List Piece) → PiecesOf bytes ps → all readable_piece ps ≡ true → LineStands out at (text (pad_to ps to s.annotation)) out' r
 
--- the bytes of a border before its segments: of a G their count is among them
-abbrev pub front_bytes : ℕ → ℕ → ℕ → ℕ → List ℕ
-front_bytes l n a count = head l n ++ (a ∷ (if eqb l 0x47 then two count else []))
-
 -- `put_stretched`
-abbrev pub PutsBorder : List ℕ → ℕ → ℕ → List ℕ → ℕ → List ℕ → ℕ → Type 0
-PutsBorder out at letter bytes to out' r =
-    (a : ℕ) (segs : List ℕ) (hs : List Hole) → read_line (whole letter bytes) ≡ some (border a segs hs)
+abbrev pub PutsStretched : List ℕ → ℕ → Field → ℕ → List ℕ → ℕ → Type 0
+PutsStretched out at line to out' r =
+    (a : ℕ) (segs : List ℕ) (hs : List Hole) → read_line (whole_of line) ≡ some (border a segs hs)
     → LineStands out at (border a (stretch_to segs to) hs) out' r
 
 -- `put_filled`
-abbrev pub PutsFilled : List ℕ → ℕ → RenderOptions → ℕ → List ℕ → ℕ → List ℕ → ℕ → Type 0
-PutsFilled out at s letter bytes to out' r =
-    (l : RenderLine) → read_line (whole letter bytes) ≡ some l → readable_line l ≡ true → LineStands out at (filled s to l) out' r
+abbrev pub PutsFilled : List ℕ → ℕ → RenderOptions → Field → ℕ → List ℕ → ℕ → Type 0
+PutsFilled out at s line to out' r =
+    (l : RenderLine) → read_line (whole_of line) ≡ some l → readable_line l ≡ true → LineStands out at (filled s to l) out' r
 
 -- lines stand in the store from a place on, unless they are more than 65,535 bytes; the place after them is right in any case
 pub record LinesStand (out : List ℕ) (at : ℕ) (ls : List RenderLine) (out' : List ℕ) (r : ℕ) : Type 0 where
@@ -50,6 +43,5 @@ pub record LinesStand (out : List ℕ) (at : ℕ) (ls : List RenderLine) (out' :
   pub store : length (lines_bytes ls) ≤ 65535 → out' ≡ sets out at (lines_bytes ls)
 
 -- `put_lines`
-abbrev pub PutsLines : List ℕ → ℕ → RenderOptions → List ℕ → ℕ → ℕ → ℕ → List ℕ → ℕ → Type 0
-PutsLines out at s bytes from end to out' r =
-    (ls : List RenderLine) → LinesAt bytes from end ls → readable_lines ls ≡ true → LinesStand out at (map (filled s to) ls) out' r
+abbrev pub PutsLines : List ℕ → ℕ → RenderOptions → List ℕ → ℕ → List ℕ → ℕ → Type 0
+PutsLines out at s bytes to out' r = (ls : List RenderLine) → LinesIn bytes ls → readable_lines ls ≡ true → LinesStand out at (map (filled s to) ls) out' r

@@ -1,2 +1,3 @@
+pub mod Border
 pub mod Filled
 pub mod Hang

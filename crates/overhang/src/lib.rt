@@ -2,5 +2,6 @@
 // lines of the sheet and the names that wait on it (request 2.2). The functions are for the crates above: what they require, that places stay in bounds, those show from the sizes of their inputs.
 #![tactic(auto)]
 
+pub mod border;
 pub mod hang;
 mod line;

@@ -1,22 +1,29 @@
--- The parts of a border's field that is read.
+-- What a border's field is read as.
 -- Assumes nothing.
 use mathlib.Core.Path.{◌≡◌, refl, subst}
 use mathlib.Core.Bool.{◌&&◌}
 use mathlib.Core.Option.{Option, none, some, map}
 use mathlib.Core.List.{List, [], ◌∷◌}
-use Prim.Native.Nat.{ℕ, suc, ◌+◌, ◌-◌, ◌*◌, ◌≤◌, ◌<◌, min}
+use Prim.Native.Nat.{ℕ, ◌+◌, ◌-◌, ◌*◌, ◌≤◌, ◌<◌}
 use native.Mathlib.Omega.{arith}
 use lib.Dec.{leb, eqb}
-use lib.ListN.{length, take, drop, get_or, drop_of_length-le}
+use lib.ListN.{length, take, drop, get_or}
 use lib.Seq.{take_all}
-use borrow.Author.Tests.{leb-true, ne_eqb}
+use borrow.Author.Tests.{lt-leb, ne_eqb}
+use Rattle.std.specs.List.{IsSplitAt}
 use Rattle.characters.proofs.Tests.{by_if, and_right}
-use Rattle.fields.specs.Field.{whole, raws, read_all, all}
+use Rattle.fields.specs.Field.{whole, raws, read_all, all, Raw, broken}
 use Rattle.fields.specs.Sheet.{Piece, read_piece, is_segment}
 use Rattle.fields.specs.Spans.{Hole, RenderLine, text, border, raw_holes, read_holes, ends_within, holed, read_holed, read_border, read_line}
-use Rattle.fields.specs.Places.{HolesFrom}
-use Rattle.places.specs.Border.{BorderAt}
+use Rattle.fields.proofs.Readings.{read_first}
+use Rattle.places.specs.declared.border.Border.{Border}
+use Rattle.places.specs.Border.{BorderIs, ReadsBorder}
 use Rattle.places.proofs.HolesLaws.{holes_nil}
+
+-- A rest that is no field is read as no line.
+pub broken_line : (rs : List Raw) (ls : List RenderLine) → read_all read_line (broken ∷ rs) ≡ some ls → ⊥
+unfolding read_line
+broken_line rs ls e = let x = (read_first read_line broken rs ls e).first in let z : ◌≡◌ {A = ℕ} 0 1 = cc in omega arith
 
 -- of a border that a reading gives
 abbrev OnBorder : (ℕ → List ℕ → List Hole → Type 0) → Option RenderLine → Type 0
@@ -24,96 +31,89 @@ OnBorder P none = Unit {0}
 OnBorder P (some (text ps)) = Unit {0}
 OnBorder P (some (border a ss hs)) = P a ss hs
 
--- what the two count bytes of a G say
-count : List ℕ → ℕ
-count s = get_or s 1 0 * 256 + get_or s 2 0
+-- three bytes and those behind them
+three : (s : List ℕ) → 3 ≤ length s → get_or s 0 0 ∷ get_or s 1 0 ∷ get_or s 2 0 ∷ take (length s - 3) (drop 3 s) ≡ s
+three (a ∷ h ∷ o ∷ rest) k =
+    let d : length (a ∷ h ∷ o ∷ rest) - 3 ≡ length rest = omega arith in
+    rw (d, take_all (length rest) rest (omega arith))
+three [] k = absurd (omega arith)
+three (a ∷ []) k = absurd (omega arith)
+three (a ∷ h ∷ []) k = absurd (omega arith)
 
--- a G whose parts are there
-record HoledAt (s : List ℕ) (a : ℕ) (ss : List ℕ) (hs : List Hole) : Type 0 where
-  long : 3 + count s ≤ length s
-  parts : BorderAt s 3 (3 + count s) a ss hs
+-- ---- a G
 
-no_holes : (s : List ℕ) (at : ℕ) → length s ≤ at → HolesFrom s at []
-unfolding read_holes
-no_holes s at h = record { reads = rw (drop_of_length-le s h, holes_nil) }
-
-plain : (s : List ℕ) → OnBorder (BorderAt s 1 (length s)) (read_border s)
-unfolding all
-plain [] = tt
-plain (a ∷ ss) =
-    let d : suc (length ss) - 1 ≡ length ss = omega arith in
-    by_if (OnBorder (BorderAt (a ∷ ss) 1 (length (a ∷ ss)))) (all is_segment ss)
-    (λ _. record { annotation = refl; segments = rw d (take_all (length ss) ss (omega arith)); punched = no_holes (a ∷ ss) (length (a ∷ ss)) (omega arith); within = refl })
+-- its holes, if they are read
+held : (r : Border) (a : ℕ) (ss : List ℕ) (q : Option (List Hole)) → r.annotation ≡ a → r.segments.now ≡ ss → read_holes (raw_holes r.holes.now) ≡ q
+    → OnBorder (BorderIs r) (holed a ss q)
+held r a ss none k d e = tt
+held r a ss (some []) k d e = tt
+held r a ss (some (x ∷ hs)) k d e =
+    by_if (OnBorder (BorderIs r)) (all is_segment ss && all (ends_within (length ss)) (x ∷ hs))
+    (λ t. record { annotation = k; segments = d; punched = record { reads = e }; within = and_right (all is_segment ss) (all (ends_within (length ss)) (x ∷ hs)) t })
     (λ _. tt)
 
-held : (a h o : ℕ) (rest : List ℕ) (q : Option (List Hole)) → h * 256 + o ≤ length rest → read_holes (raw_holes (drop (h * 256 + o) rest)) ≡ q
-    → OnBorder (HoledAt (a ∷ h ∷ o ∷ rest)) (holed a (take (h * 256 + o) rest) q)
-unfolding count
-held a h o rest none k e = tt
-held a h o rest (some []) k e = tt
-held a h o rest (some (x ∷ hs)) k e =
-    let n = h * 256 + o in
-    let ss = take n rest in
-    let d : 3 + n - 3 ≡ n = omega arith in
-    let m : 3 + n ≡ suc (suc (suc n)) = omega arith in
-    by_if (OnBorder (HoledAt (a ∷ h ∷ o ∷ rest))) (all is_segment ss && all (ends_within (length ss)) (x ∷ hs))
-    (λ t.
-    record {
-      long = omega arith;
-      parts = record { annotation = refl; segments = rw d; punched = record { reads = rw m e }; within = and_right (all is_segment ss) (all (ends_within (length ss)) (x ∷ hs)) t };
-    })
+long_enough : (r : Border) (a h o : ℕ) (rest : List ℕ) → r.annotation ≡ a → IsSplitAt rest (h * 256 + o) r.segments.now r.holes.now
+    → OnBorder (BorderIs r) (read_line (whole 0x47 (a ∷ h ∷ o ∷ rest)))
+unfolding read_line read_holed
+long_enough r a h o rest k (fits, front, back, m, l) =
+    by_if (OnBorder (BorderIs r)) (leb (h * 256 + o) (length rest))
+    (λ _. held r a (take (h * 256 + o) rest) (read_holes (raw_holes (drop (h * 256 + o) rest))) k front (rw back))
     (λ _. tt)
 
-holed_at : (s : List ℕ) → OnBorder (HoledAt s) (read_holed s)
-unfolding read_holed
-holed_at [] = tt
-holed_at (a ∷ []) = tt
-holed_at (a ∷ h ∷ []) = tt
-holed_at (a ∷ h ∷ o ∷ rest) =
-    by_if (OnBorder (HoledAt (a ∷ h ∷ o ∷ rest))) (leb (h * 256 + o) (length rest))
-    (λ k. held a h o rest (read_holes (raw_holes (drop (h * 256 + o) rest))) (leb-true (h * 256 + o) (length rest) k) refl)
-    (λ _. tt)
+too_short : (r : Border) (a h o : ℕ) (rest : List ℕ) → length rest < h * 256 + o → OnBorder (BorderIs r) (read_line (whole 0x47 (a ∷ h ∷ o ∷ rest)))
+unfolding read_line read_holed
+too_short r a h o rest k = rw (lt-leb (h * 256 + o) (length rest) k) tt
+
+pub holed_found : (r : Border) (s : List ℕ) (n : ℕ) → 3 ≤ length s → r.annotation ≡ get_or s 0 0 → n ≡ get_or s 1 0 * 256 + get_or s 2 0
+    → IsSplitAt (take (length s - 3) (drop 3 s)) n r.segments.now r.holes.now → ReadsBorder 0x47 s r
+holed_found r s n k ea en p a ss hs e =
+    subst (OnBorder (BorderIs r)) e
+    (subst (λ (t : List ℕ). OnBorder (BorderIs r) (read_line (whole 0x47 t))) (three s k)
+    (long_enough r (get_or s 0 0) (get_or s 1 0) (get_or s 2 0) (take (length s - 3) (drop 3 s)) ea (rw (← en) p)))
+
+pub holed_cut : (r : Border) (s : List ℕ) (n : ℕ) → 3 ≤ length s → n ≡ get_or s 1 0 * 256 + get_or s 2 0 → length (take (length s - 3) (drop 3 s)) < n → ReadsBorder 0x47 s r
+holed_cut r s n k en p a ss hs e =
+    subst (OnBorder (BorderIs r)) e
+    (subst (λ (t : List ℕ). OnBorder (BorderIs r) (read_line (whole 0x47 t))) (three s k)
+    (too_short r (get_or s 0 0) (get_or s 1 0) (get_or s 2 0) (take (length s - 3) (drop 3 s)) (rw (← en) p)))
+
+pub holed_short : (r : Border) (s : List ℕ) → length s < 3 → ReadsBorder 0x47 s r
+unfolding read_line read_holed
+holed_short r [] k a ss hs e = cc
+holed_short r (x ∷ []) k a ss hs e = cc
+holed_short r (x ∷ y ∷ []) k a ss hs e = cc
+holed_short r (x ∷ y ∷ z ∷ s) k a ss hs e = absurd (omega arith)
+
+-- ---- another border is a B
 
 no_text : (P : ℕ → List ℕ → List Hole → Type 0) (o : Option (List Piece)) → OnBorder P (map text o)
 no_text P none = tt
 no_text P (some ps) = tt
 
-holed_line : (s : List ℕ) → OnBorder (HoledAt s) (read_line (whole 0x47 s))
-unfolding read_line
-holed_line s = holed_at s
+plain : (r : Border) (a : ℕ) (ss : List ℕ) → r.annotation ≡ a → r.segments.now ≡ ss → r.holes.now ≡ [] → OnBorder (BorderIs r) (read_border (a ∷ ss))
+unfolding all read_holes
+plain r a ss k d e =
+    by_if (OnBorder (BorderIs r)) (all is_segment ss) (λ _. record { annotation = k; segments = d; punched = record { reads = rw (e, holes_nil) }; within = refl }) (λ _. tt)
 
-plain_line : (l : ℕ) (s : List ℕ) → (l ≡ 0x47 → ⊥) → OnBorder (BorderAt s 1 (length s)) (read_line (whole l s))
+plain_line : (P : ℕ → List ℕ → List Hole → Type 0) (l : ℕ) (s : List ℕ) → (l ≡ 0x47 → ⊥) → OnBorder P (read_border s) → OnBorder P (read_line (whole l s))
 unfolding read_line
-plain_line l s n =
+plain_line P l s n k =
     rw (ne_eqb l 0x47 n)
-    (by_if (OnBorder (BorderAt s 1 (length s))) (eqb l 0x4C) (λ _. no_text (BorderAt s 1 (length s)) (read_all read_piece (raws s)))
-    (λ _. by_if (OnBorder (BorderAt s 1 (length s))) (eqb l 0x42) (λ _. plain s) (λ _. tt)))
+    (by_if (OnBorder P) (eqb l 0x4C) (λ _. no_text P (read_all read_piece (raws s))) (λ _. by_if (OnBorder P) (eqb l 0x42) (λ _. k) (λ _. tt)))
 
--- A G THAT IS READ.
-holed_is : (s : List ℕ) (a : ℕ) (ss : List ℕ) (hs : List Hole) → read_line (whole 0x47 s) ≡ some (border a ss hs) → HoledAt s a ss hs
-holed_is s a ss hs e = subst (OnBorder (HoledAt s)) e (holed_line s)
+one : (s : List ℕ) → 1 ≤ length s → get_or s 0 0 ∷ take (length s - 1) (drop 1 s) ≡ s
+one (a ∷ ss) k =
+    let d : length (a ∷ ss) - 1 ≡ length ss = omega arith in
+    rw (d, take_all (length ss) ss (omega arith))
+one [] k = absurd (omega arith)
 
-pub holed_found : (s : List ℕ) (n : ℕ) → n ≡ get_or s 1 0 * 256 + get_or s 2 0 → (a : ℕ) (ss : List ℕ) (hs : List Hole)
-    → read_line (whole 0x47 s) ≡ some (border a ss hs) → BorderAt s 3 (3 + n) a ss hs
-unfolding count
-holed_found s n k a ss hs e = rw k (holed_is s a ss hs e).parts
+pub plain_found : (r : Border) (l : ℕ) (s : List ℕ) → (l ≡ 0x47 → ⊥) → 1 ≤ length s → r.annotation ≡ get_or s 0 0 → r.segments.now ≡ take (length s - 1) (drop 1 s)
+    → r.holes.now ≡ [] → ReadsBorder l s r
+plain_found r l s n k ea ed eh a ss hs e =
+    subst (OnBorder (BorderIs r)) e
+    (plain_line (BorderIs r) l s n
+    (subst (λ (t : List ℕ). OnBorder (BorderIs r) (read_border t)) (one s k) (plain r (get_or s 0 0) (take (length s - 1) (drop 1 s)) ea ed eh)))
 
--- One that is too short is not read.
-pub holed_short : (s : List ℕ) (m : ℕ) → length s < 3 → (a : ℕ) (ss : List ℕ) (hs : List Hole) → read_line (whole 0x47 s) ≡ some (border a ss hs) → BorderAt s m m a ss hs
-holed_short s m h a ss hs e = absurd (omega (arith, (holed_is s a ss hs e).long))
-
-pub holed_cut : (s : List ℕ) (m n : ℕ) → n ≡ get_or s 1 0 * 256 + get_or s 2 0 → 3 ≤ length s → length s - 3 < n → (a : ℕ) (ss : List ℕ) (hs : List Hole)
-    → read_line (whole 0x47 s) ≡ some (border a ss hs) → BorderAt s m m a ss hs
-unfolding count
-holed_cut s m n k l h a ss hs e = absurd (omega (arith, (holed_is s a ss hs e).long))
-
--- ANOTHER BORDER IS A B, and an empty content is no border.
-pub plain_found : (l : ℕ) (s : List ℕ) (m : ℕ) → m ≡ min (length s) 1 → (l ≡ 0x47 → ⊥) → (a : ℕ) (ss : List ℕ) (hs : List Hole)
-    → read_line (whole l s) ≡ some (border a ss hs) → BorderAt s m (length s) a ss hs
-unfolding read_line
-plain_found l (b ∷ s) m k n a ss hs e = let one : m ≡ 1 = omega arith in rw one (subst (OnBorder (BorderAt (b ∷ s) 1 (length (b ∷ s)))) e (plain_line l (b ∷ s) n))
-plain_found l [] m k n a ss hs e =
-    subst (OnBorder (BorderAt [] m (length {A = ℕ} []))) e
-    (rw (ne_eqb l 0x47 n)
-    (by_if (OnBorder (BorderAt [] m (length {A = ℕ} []))) (eqb l 0x4C) (λ _. no_text (BorderAt [] m (length {A = ℕ} [])) (read_all read_piece (raws [])))
-    (λ _. by_if (OnBorder (BorderAt [] m (length {A = ℕ} []))) (eqb l 0x42) (λ _. tt) (λ _. tt))))
+pub plain_short : (r : Border) (l : ℕ) (s : List ℕ) → (l ≡ 0x47 → ⊥) → length s < 1 → ReadsBorder l s r
+plain_short r l [] n k a ss hs e = subst (OnBorder (BorderIs r)) e (plain_line (BorderIs r) l [] n tt)
+plain_short r l (x ∷ s) n k a ss hs e = absurd (omega arith)

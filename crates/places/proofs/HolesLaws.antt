@@ -1,21 +1,20 @@
 -- The hole that bytes begin with, and the holes that the definitions read behind it.
 -- Assumes nothing.
-use mathlib.Core.Path.{◌≡◌, refl, sym, ap, ◌∙◌}
+use mathlib.Core.Path.{◌≡◌, refl, sym, ◌∙◌}
 use mathlib.Core.List.{List, [], ◌∷◌}
 use mathlib.Core.Option.{Option, none, some, map}
-use Prim.Native.Nat.{ℕ, zero, suc, ◌+◌, ◌-◌, ◌*◌, ◌≤◌, ◌<◌}
+use Prim.Native.Nat.{ℕ, zero, suc, ◌+◌, ◌*◌, ◌≤◌, ◌<◌}
 use native.Mathlib.Omega.{arith}
 use lib.Dec.{leb}
 use lib.ListN.{length, take, drop, get_or, length-drop}
-use lib.Seq.{take_all, drop-length, length-take-le}
-use borrow.Author.Tests.{lt-leb, leb-true}
-use Rattle.std.specs.List.{IsSplitAt}
+use lib.Seq.{length-take-le}
+use borrow.Author.Tests.{leb-true}
 use Rattle.characters.proofs.Tests.{by_if}
-use Rattle.fields.specs.Field.{whole, broken, raws, both}
+use Rattle.fields.specs.Field.{Raw, whole, broken, raws, both}
 use Rattle.fields.specs.Sheet.{Piece, read_piece}
-use Rattle.fields.proofs.Fields.{raws_nil, raws_cons}
 use Rattle.fields.specs.Spans.{Hole, hole, RawHole, punched, torn, raw_holes_f, raw_holes, read_hole, read_holes}
-use Rattle.fields.proofs.SpansBack.{holes_cons}
+use Rattle.fields.proofs.Fields.{raws_nil}
+use Rattle.fields.proofs.SpansBack.{hole_whole, hole_torn}
 
 -- no bytes, no holes
 pub holes_nil : raw_holes [] ≡ []
@@ -26,56 +25,31 @@ pub holes_none : (bs : List ℕ) → length bs ≡ 0 → raw_holes bs ≡ []
 holes_none [] h = holes_nil
 holes_none (b ∷ bs) h = absurd (omega arith)
 
--- less than a place and a head
-pub holes_short : (bs : List ℕ) → length bs < 5 → 0 < length bs → raw_holes bs ≡ torn ∷ []
+-- less than a place
+pub holes_short : (bs : List ℕ) → length bs < 2 → 0 < length bs → raw_holes bs ≡ torn ∷ []
 unfolding raw_holes raw_holes_f
 holes_short [] k h = absurd (omega arith)
 holes_short (p ∷ []) k h = refl
-holes_short (p ∷ q ∷ []) k h = refl
-holes_short (p ∷ q ∷ l ∷ []) k h = refl
-holes_short (p ∷ q ∷ l ∷ x ∷ []) k h = refl
-holes_short (p ∷ q ∷ l ∷ x ∷ o ∷ bs) k h = absurd (omega arith)
+holes_short (p ∷ q ∷ bs) k h = absurd (omega arith)
 
-cut : (p q l h o n : ℕ) (rest : List ℕ) → n ≡ h * 256 + o → length rest < n → raw_holes (p ∷ q ∷ l ∷ h ∷ o ∷ rest) ≡ torn ∷ []
-unfolding raw_holes raw_holes_f
-cut p q l h o n rest e k = rw (← e, lt-leb n (length rest) k)
+-- where no field is read there is no whole one
+none_whole : (bs : List ℕ) (l : ℕ) (t : List ℕ) (rs : List Raw) → (0 < length bs → raws bs ≡ broken ∷ []) → raws bs ≡ whole l t ∷ rs → ⊥
+none_whole [] l t rs k e = let z : [] ≡ whole l t ∷ rs = sym raws_nil ∙ e in let y : ◌≡◌ {A = ℕ} 0 1 = cc in omega arith
+none_whole (b ∷ bs) l t rs k e = let z : broken ∷ [] ≡ whole l t ∷ rs = sym (k (omega arith)) ∙ e in let y : ◌≡◌ {A = ℕ} 0 1 = cc in omega arith
 
--- five bytes and those behind them
-five : (bs : List ℕ) → 5 ≤ length bs
-    → bs ≡ get_or bs 0 0 ∷ get_or bs 1 0 ∷ get_or bs 2 0 ∷ get_or bs 3 0 ∷ get_or bs 4 0 ∷ take (length bs - 5) (drop 5 bs)
-five (p ∷ q ∷ l ∷ h ∷ o ∷ rest) k =
-    let d : length (p ∷ q ∷ l ∷ h ∷ o ∷ rest) - 5 ≡ length rest = omega arith in
-    rw (d, take_all (length rest) rest (omega arith))
-five [] k = absurd (omega arith)
-five (p ∷ []) k = absurd (omega arith)
-five (p ∷ q ∷ []) k = absurd (omega arith)
-five (p ∷ q ∷ l ∷ []) k = absurd (omega arith)
-five (p ∷ q ∷ l ∷ h ∷ []) k = absurd (omega arith)
+-- A place behind which no whole field stands.
+pub holes_torn : (bs behind : List ℕ) → length behind + 2 ≡ length bs → behind ≡ drop 2 bs → (0 < length behind → raws behind ≡ broken ∷ []) → raw_holes bs ≡ torn ∷ []
+holes_torn [] behind k e r = absurd (omega arith)
+holes_torn (p ∷ []) behind k e r = absurd (omega arith)
+holes_torn (p ∷ q ∷ bs) behind k e r = hole_torn p q bs (λ l t rs. none_whole bs l t rs (rw e at r))
 
--- the head is there, and the content not to its last byte
-pub holes_cut : (bs : List ℕ) (n : ℕ) → 5 ≤ length bs → n ≡ get_or bs 3 0 * 256 + get_or bs 4 0 → length (take (length bs - 5) (drop 5 bs)) < n
-    → raw_holes bs ≡ torn ∷ []
-holes_cut bs n k e c = ap raw_holes (five bs k) ∙ cut _ _ _ _ _ n (take (length bs - 5) (drop 5 bs)) e c
-
--- A WHOLE HOLE.
-pub holes_first : (bs content rest : List ℕ) (p n : ℕ) → 5 ≤ length bs → p ≡ get_or bs 0 0 * 256 + get_or bs 1 0 → n ≡ get_or bs 3 0 * 256 + get_or bs 4 0
-    → IsSplitAt (take (length bs - 5) (drop 5 bs)) n content rest → raw_holes bs ≡ punched p (whole (get_or bs 2 0) content) ∷ raw_holes rest
-holes_first bs content rest p n k ep en (fits, front, back, m, l) =
-    ap raw_holes (five bs k)
-    ∙ holes_cons (get_or bs 0 0) (get_or bs 1 0) (get_or bs 2 0) (get_or bs 3 0) (get_or bs 4 0) (take (length bs - 5) (drop 5 bs)) (rw (← en) fits)
-    ∙ rw (← ep, ← en, ← front, ← back)
-
-one_field : (l h o n : ℕ) (t : List ℕ) → h * 256 + o ≡ n → length t ≡ n → raws (l ∷ h ∷ o ∷ t) ≡ whole l t ∷ []
-one_field l h o n t e k =
-    let d : drop n t ≡ [] = ap (λ (i : ℕ). drop i t) (sym k) ∙ drop-length t in
-    raws_cons l h o t (omega arith) ∙ rw (e, take_all n t (omega arith), d, raws_nil)
-
--- ITS FIELD.
-pub holes_field : (bs content rest : List ℕ) (n m : ℕ) → 5 ≤ length bs → n ≡ get_or bs 3 0 * 256 + get_or bs 4 0 → m ≡ suc (suc (suc n))
-    → IsSplitAt (take (length bs - 5) (drop 5 bs)) n content rest → raws (take m (drop 2 bs)) ≡ whole (get_or bs 2 0) content ∷ []
-holes_field bs content rest n m k en em (fits, front, back, size, l) =
-    let field : take m (drop 2 bs) ≡ get_or bs 2 0 ∷ get_or bs 3 0 ∷ get_or bs 4 0 ∷ content = rw em (ap (λ (t : List ℕ). take (suc (suc (suc n))) (drop 2 t)) (five bs k) ∙ rw (← front)) in
-    ap raws field ∙ one_field (get_or bs 2 0) (get_or bs 3 0) (get_or bs 4 0) n content (sym en) size
+-- A WHOLE HOLE: a place and the field behind it.
+pub holes_first : (bs place behind rest : List ℕ) (p l : ℕ) (t : List ℕ) (others : List Raw) → length behind + 2 ≡ length bs → place ≡ take 2 bs → behind ≡ drop 2 bs
+    → p ≡ get_or place 0 0 * 256 + get_or place 1 0 → raws behind ≡ whole l t ∷ others → rest ≡ drop (3 + length t) behind
+    → raw_holes bs ≡ punched p (whole l t) ∷ raw_holes rest
+holes_first [] place behind rest p l t others k ea eb ep r er = absurd (omega arith)
+holes_first (x ∷ []) place behind rest p l t others k ea eb ep r er = absurd (omega arith)
+holes_first (x ∷ y ∷ bs) place behind rest p l t others k ea eb ep r er = rw (ep, ea, er, eb) (hole_whole x y bs l t others (rw eb at r))
 
 -- ---- holes that are read
 

@@ -3,7 +3,7 @@
 use Rattle.std.specs.Prelude.{◌≡◌, ℕ, ◌<◌, List, [], ◌∷◌, length, Option, MatchOption, Result}
 use Rattle.std.specs.declared.result.Result.TheVariants.{Ok, Err}
 use denote.Ref.{Bor}
-use Rattle.fields.specs.Field.{whole}
+use Rattle.fields.specs.List.{whole_of}
 use Rattle.fields.specs.Spans.{RawHole, punched, torn, raw_holes}
 use Rattle.places.specs.declared.holes.Hole.{Hole}
 use Rattle.fields.specs.declared.raw.Broken.{Broken}
@@ -11,7 +11,7 @@ use Rattle.places.specs.declared.holes.Holes.{Holes}
 
 -- what an item is by the definitions: a place with a field, or a rest that is no hole
 abbrev pub raw_item : Result Hole Broken → RawHole
-raw_item (Ok h) = punched h.place (whole h.letter h.content.now)
+raw_item (Ok h) = punched h.place (whole_of h.piece)
 raw_item (Err e) = torn
 
 -- the holes that are left

@@ -1,19 +1,12 @@
 // The holes of a border, read one after the other.
-ghost use Rattle.std.specs.Prelude.{◌≡◌, [], ◌∷◌, ◌+◌, ◌<◌, length};
-ghost use Rattle.fields.specs.Field.{whole, raws};
+use fields::list::split_field;
+use fields::raw::{Broken, Field};
 
-use fields::raw::Broken;
-
-// A hole: the column where it begins, and the text or the name that stands there, as a letter with a content and as the whole field.
+// A hole: the column where it begins, and the text or the name that stands there.
 #[derive(Clone, Copy)]
 pub struct Hole<'a> {
     pub place: u16,
-    pub letter: u8,
-    pub content: &'a [u8],
-    pub field: &'a [u8],
-    pub ghost short: { length content.now < 65536 },
-    pub ghost size: { length field.now ≡ length content.now + 3 },
-    pub ghost one_field: { raws field.now ≡ whole letter content.now ∷ [] },
+    pub piece: Field<'a>,
 }
 
 // The holes that are left. A rest that is no hole is given once, and ends them.
@@ -23,33 +16,26 @@ pub struct Holes<'a> {
 }
 
 impl<'a> Holes<'a> {
-    ghost use Rattle.std.specs.Prelude.{drop};
+    ghost use Rattle.std.specs.Prelude.{◌≡◌};
     ghost use Rattle.fields.specs.Spans.{raw_holes};
     ghost use Rattle.places.specs.Holes.{holes_left, SplitsHole};
 
-    // The holes of a border's content from a place on.
-    pub fn new(content: &'a [u8], at: usize) -> Holes<'a>
-        ensures { holes_left result ≡ raw_holes (drop at content.now) }
+    // The holes that bytes are.
+    pub fn new(bytes: &'a [u8]) -> Holes<'a>
+        ensures { holes_left result ≡ raw_holes bytes.now }
     {
-        Holes {
-            rest: content.get(at..).unwrap_or_default(),
-        }
+        Holes { rest: bytes }
     }
 
     // The hole that bytes begin with, and the bytes behind it.
     fn split(bytes: &'a [u8]) -> Option<(Hole<'a>, &'a [u8])>
         ensures { SplitsHole bytes.now result }
     {
-        let [p, q, letter, h, o, behind @ ..] = bytes else {
-            return None;
-        };
-        let len = usize::from(u16::from_be_bytes([*h, *o]));
-        let (content, rest) = behind.split_at_checked(len)?;
+        let (place, behind) = bytes.split_first_chunk::<2>()?;
+        let (piece, rest) = split_field(behind)?;
         let hole = Hole {
-            place: u16::from_be_bytes([*p, *q]),
-            letter: *letter,
-            content,
-            field: &bytes[2..5 + len],
+            place: u16::from_be_bytes(*place),
+            piece,
         };
         Some((hole, rest))
     }

@@ -1,4 +1,4 @@
-// The holes of a border by their places (request 2.1): a hole, and where a border's segments and holes stand in its field's content.
+// A border as its field holds it, and its holes, one after the other (request 2.1).
 #![tactic(auto)]
 
 pub mod border;

@@ -10,23 +10,20 @@ use Prim.Native.Nat.{ℕ, zero, suc, ◌+◌, ◌*◌, ◌<◌}
 use native.Mathlib.Omega.{arith}
 use lib.Dec.{leb, eqb}
 use lib.ListN.{length, take, drop, drop_of_length-le}
+use lib.Seq.{drop-drop}
 use borrow.Author.Tests.{eqb-true, lt-ltb}
 use Rattle.std.specs.Prelude.{if◌then◌else◌, map, Some, None, Ok, Err}
 use Rattle.std.specs.Prelude as rust
 use Rattle.characters.proofs.Tests.{lt_or_le}
-use Rattle.fields.specs.Field.{Raw, whole, broken, raws, field_at, both, read_all, all, part}
+use Rattle.fields.specs.Field.{Raw, whole, broken, raws, both, read_all, all}
 use Rattle.fields.specs.Sheet as sheet
 use Rattle.fields.specs.Sheet.{str, fragment, read_str, is_segment}
-use Rattle.fields.specs.declared.field.Field.{Field}
-use Rattle.fields.specs.declared.field.Field.TheVariants as field
-use Rattle.fields.proofs.Fields.{field_broken, field_end}
+use Rattle.fields.proofs.Sizes.{first_field}
 use Rattle.fields.proofs.Readings.{read_first, read_none}
-use Rattle.fields.proofs.Parts.{part_length}
 use Rattle.fields.specs.Spans as spans
 use Rattle.fields.specs.Spans.{Hole, hole, RenderLine, Hanging, hanging, Sheet, sheet_of, RawHole, punched, torn, raw_holes_f, raw_holes, read_hole, read_holes, ends_within, holed, read_holed, read_border, is_span, read_hanging_content, before_hanging, from_hanging, before_names, from_names, parts, counted, read_parts, read_headed, read_sheet}
 use Rattle.fields.specs.declared.raw.Broken.{Broken}
 use Rattle.reader.specs.Reading.{Reading, SeenLine, items, items_size, size_then, field_size, text, border, holes, item_then, seen, piece_of, read_piece, read_line, in_cell, read_cell_line, read_name, read_hanging, from_lines, lines_end, names_end, whole_line, whole_hanging, walked, WalksBack}
-use Rattle.reader.proofs.Places.{found}
 
 -- ---- a list that is read
 
@@ -60,30 +57,15 @@ module _ {B : Type 0} (read : Reading B) (s : List ℕ) where
   unfolding items_size behind behind_then
   behind_size [] at e = let z : at + 0 ≡ at = omega arith in rw z e
   behind_size (broken ∷ rs) at e = let z : at + 0 ≡ at = omega arith in rw z e
-  behind_size (whole l c ∷ rs) at e = go (behind_size rs) (field_at at (drop at s)) refl
+  behind_size (whole l c ∷ rs) at e = there (behind_size rs) (rw drop-drop at (first_field (drop at s) l c rs e).behind) (read l c)
     where
-      Later : Type 0
-      Later = (at : ℕ) → raws (drop at s) ≡ rs → raws (drop (at + items_size read rs) s) ≡ behind read rs
-
-      there : Later → (next : ℕ) → at + (3 + length c) ≡ next → raws (drop next s) ≡ rs → (r : rust.Option (rust.Result B Broken))
-          → raws (drop (at + size_then r (field_size l c + items_size read rs)) s) ≡ behind_then r (whole l c ∷ rs) (behind read rs)
-      there later next n w None = let z : at + 0 ≡ at = omega arith in rw z e
-      there later next n w (Some (Err x)) = let z : at + 0 ≡ at = omega arith in rw z e
-      there later next n w (Some (Ok b)) =
-          let m : at + (3 + length c + items_size read rs) ≡ next + items_size read rs = omega arith in
-          rw m (later next w)
-
-      go : Later → (f : Field) → field_at at (drop at s) ≡ f
-          → raws (drop (at + size_then (read l c) (field_size l c + items_size read rs)) s) ≡ behind_then (read l c) (whole l c ∷ rs) (behind read rs)
-      go later (field.At x start next) k =
-          let g = found s at x start next k in
-          let z : whole x (part start next s) ∷ raws (drop next s) ≡ whole l c ∷ rs = sym g.fields ∙ e in
-          let y : part start next s ≡ c = cc in
-          let w : raws (drop next s) ≡ rs = cc in
-          let n : at + (3 + length c) ≡ next = omega (arith, ap length y, part_length start next s g.inside, g.begins, g.order) in
-          there later next n w (read l c)
-      go later field.Broken k = absurd (let z : broken ∷ [] ≡ whole l c ∷ rs = sym (field_broken s at k) ∙ e in let y : ◌≡◌ {A = ℕ} 0 1 = cc in omega arith)
-      go later field.End k = absurd (let z : [] ≡ whole l c ∷ rs = sym (field_end s at k) ∙ e in let y : ◌≡◌ {A = ℕ} 0 1 = cc in omega arith)
+      there : ((at : ℕ) → raws (drop at s) ≡ rs → raws (drop (at + items_size read rs) s) ≡ behind read rs) → raws (drop (at + (3 + length c)) s) ≡ rs
+          → (r : rust.Option (rust.Result B Broken)) → raws (drop (at + size_then r (field_size l c + items_size read rs)) s) ≡ behind_then r (whole l c ∷ rs) (behind read rs)
+      there later w None = let z : at + 0 ≡ at = omega arith in rw z e
+      there later w (Some (Err x)) = let z : at + 0 ≡ at = omega arith in rw z e
+      there later w (Some (Ok b)) =
+          let m : at + (3 + length c + items_size read rs) ≡ at + (3 + length c) + items_size read rs = omega arith in
+          rw m (later (at + (3 + length c)) w)
 
 -- ---- pieces
 
@@ -362,17 +344,16 @@ headed l c rs t e = go (eqb l 0x48) e
 -- The lines of a sheet begin behind five bytes.
 behind_head : (s : List ℕ) (t : Sheet) → read_headed (raws s) ≡ some t → Reads (raws (drop 5 s)) t
 unfolding read_headed
-behind_head s t e = go (field_at 0 s) refl
+behind_head s t e = go (raws s) refl e
   where
-    go : (f : Field) → field_at 0 s ≡ f → Reads (raws (drop 5 s)) t
-    go (field.At l start next) k =
-        let g = found s 0 l start next k in
-        let r = headed l (part start next s) (raws (drop next s)) t (rw g.fields at e) in
-        let m = part_length start next s g.inside in
-        let x : next ≡ 5 = omega (arith, r.0, g.begins, g.order) in
-        rw x at r.1
-    go field.Broken k = absurd (none-ne-some t (rw (field_broken s 0 k) at e))
-    go field.End k = absurd (none-ne-some t (rw (field_end s 0 k) at e))
+    go : (rs : List Raw) → raws s ≡ rs → read_headed rs ≡ some t → Reads (raws (drop 5 s)) t
+    go [] k e = absurd (none-ne-some t e)
+    go (broken ∷ rs) k e = absurd (none-ne-some t e)
+    go (whole l c ∷ rs) k e =
+        let r = headed l c rs t e in
+        let n : 3 + length c ≡ 5 = omega (arith, r.0) in
+        let behind : raws (drop 5 s) ≡ rs = rw n at (first_field s l c rs k).behind in
+        rw behind r.1
 
 -- The walks over a sheet that passes refusal 1 give its lines, the names that wait on it, and the cells that hang from it.
 pub walks_back : WalksBack

@@ -2,10 +2,9 @@
 -- Each walk is a list: items, and at the first field that is none of them what is broken, which ends it. Assumes nothing: these are definitions.
 use Rattle.std.specs.Prelude.{◌≡◌, List, [], ◌∷◌, ℕ, ◌+◌, ◌*◌, ltb, eqb, length, take, drop, map, if◌then◌else◌, Option, Some, None, Result, Ok, Err, MatchOption, MatchResult}
 use Rattle.std.proofs.Math.Option.{some}
-use Rattle.fields.specs.Field.{Raw, whole, broken, raws, field_at, part}
+use Rattle.fields.specs.Field.{Raw, whole, broken, raws}
 use Rattle.fields.specs.Sheet as sheet
 use Rattle.fields.specs.Sheet.{str, fragment}
-use Rattle.fields.specs.declared.field.Field.TheVariants as field
 use Rattle.fields.specs.Spans as spans
 use Rattle.fields.specs.Spans.{RawHole, punched, torn, raw_holes, read_sheet}
 use Rattle.fields.specs.declared.raw.Broken.{Broken}
@@ -91,14 +90,14 @@ next_place read w = if w.is_over then w.at else w.at + first_size read (ahead w)
 abbrev pub end_place : {T A : Type 0} → Reading A → Walk T → ℕ
 end_place read w = if w.is_over then w.at else w.at + items_size read (ahead w)
 
--- the field at a place, with its content
+-- the first field from a place on, with its content, and the place behind it
 pub record FieldIn (s : List ℕ) (at : ℕ) (f : Found) : Type 0 where
-  pub there : field_at at (drop at s) ≡ field.At f.letter (at + 3) f.next
-  pub content : f.content.now ≡ part (at + 3) f.next s
+  pub first : raws (drop at s) ≡ whole f.letter f.content.now ∷ raws (drop f.next s)
+  pub place : f.next ≡ at + field_size f.letter f.content.now
 
 -- what is found at a place
 abbrev pub Finds : List ℕ → ℕ → Option (Result Found Broken) → Type 0
-Finds s at r = MatchOption r (field_at at (drop at s) ≡ field.End) (λ x. MatchResult x (FieldIn s at) (λ e. field_at at (drop at s) ≡ field.Broken))
+Finds s at r = MatchOption r (raws (drop at s) ≡ []) (λ x. MatchResult x (FieldIn s at) (λ e. raws (drop at s) ≡ broken ∷ []))
 
 -- an item at a place, and the place where the next one stands
 pub record ItemIn {A : Type 0} (read : Reading A) (s : List ℕ) (at : ℕ) (a : A) (next : ℕ) : Type 0 where

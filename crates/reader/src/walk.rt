@@ -5,7 +5,7 @@ ghost use Rattle.fields.specs.Field.{raws};
 ghost use Rattle.fields.specs.declared.raw.Broken.{Broken};
 ghost use Rattle.reader.specs.Reading.{seen, all_seen, left, next_place, end_place, Finds, Reads, items, items_size};
 
-use fields::field::{Field, field_at};
+use fields::list::split_field;
 pub use fields::raw::Broken;
 use std::marker::PhantomData;
 
@@ -36,22 +36,18 @@ pub(crate) struct Found<'a> {
 pub(crate) fn find<'a>(bytes: &'a [u8], at: usize) -> Option<Result<Found<'a>, Broken>>
     ensures { Finds bytes.now at result }
 {
-    match field_at(bytes, at) {
-        Field::At {
-            letter,
-            start,
-            next,
-        } => {
-            let content = &bytes[start..next];
-            Some(Ok(Found {
-                letter,
-                content,
-                next,
-            }))
-        }
-        Field::Broken => Some(Err(Broken)),
-        Field::End => None,
+    let rest = bytes.get(at..)?;
+    if rest.is_empty() {
+        return None;
     }
+    let Some((field, behind)) = split_field(rest) else {
+        return Some(Err(Broken));
+    };
+    Some(Ok(Found {
+        letter: field.letter,
+        content: field.content,
+        next: bytes.len() - behind.len(),
+    }))
 }
 
 // The item at a place, and the place where the next one stands.

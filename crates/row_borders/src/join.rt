@@ -1,108 +1,34 @@
 // Joins at the inner edges of a row.
-ghost use Rattle.std.specs.Prelude.{◌≡◌, ◌≤◌, ◌<◌, length};
-ghost use Rattle.slots.specs.Seats.{SlotsIn};
-ghost use Rattle.seats.specs.Keep.{AllNarrow};
-ghost use Rattle.row_borders.specs.Join.{JoinedIn, JoinsKept, JoinsNext, JoinsRest, JoinsEdges};
+ghost use Rattle.std.specs.Prelude.{◌≡◌, ◌<◌, length, IfSome};
+ghost use Rattle.row_borders.specs.Join.{JoinsNext, JoinsEdges};
 
 use borders::border::Side;
-use long_borders::border::join_on;
+use long_borders::border::BorderHoriz;
 use long_borders::position::advance;
-use seats::keep::Kept;
-use slots::seat::{Next, Slots, next_slot};
+use seats::row::Row;
 
-// How many segments a border has, where the last seat ends, and where the next one begins: at 0 there is none before it.
-#[derive(Clone, Copy)]
-pub struct Joined {
-    pub len: usize,
-    pub end: usize,
-    pub pos: usize,
-}
-
-// One seat more: a join at the edge before it, if another seat stands there.
-fn join_next(border: &mut [u8], from: Joined, width: usize, side: Side) -> Joined
-    requires { JoinedIn from × (width < 65791) }
-    ensures joined_in { JoinedIn result × (length border.new ≡ length border.old) }
-    ensures joins_next { JoinsNext side border.old from width border.new result }
+// One seat more: a join at the edge before it, where the seat before it ends, if one stands there. The answer is where it ends itself.
+fn join_next(border: &mut BorderHoriz<'_>, end: Option<usize>, width: usize, side: Side) -> usize
+    requires { IfSome end (λ edge. edge < 8589934592) × (width < 65791) }
+    ensures room { length border.new.buffer.now ≡ length border.old.buffer.now }
+    ensures upper_bound { result < 8589934592 }
+    ensures joins_next { JoinsNext side border.old end width border.new result }
 {
-    let end = advance(from.pos, width);
-    let pos = advance(end, 1);
-    if from.pos == 0 {
-        return Joined {
-            len: from.len,
-            end,
-            pos,
-        };
-    }
-    let len = join_on(border, from.len, from.end, side);
-    Joined { len, end, pos }
-}
-
-// The inner edges of the kept seats.
-fn join_kept(border: &mut [u8], len: usize, width: &[usize; 16], n: usize, side: Side) -> Joined
-    requires { (n ≤ 16) × AllNarrow width.now n }
-    ensures joined_in { JoinedIn result × (length border.new ≡ length border.old) }
-    ensures joins_kept { JoinsKept side border.old len width.now n border.new result }
-{
-    let mut joined = Joined {
-        len,
-        end: 0,
-        pos: 0,
+    let Some(edge) = end else {
+        return width;
     };
-    let mut k: usize = 0;
-    while k < n {
-        joined = join_next(border, joined, width[k], side);
-        k += 1;
-    }
-    joined
+    border.join_on(edge, side);
+    advance(edge, width + 1)
 }
 
-// The inner edges before each seat that is ahead.
-fn join_rest(
-    border: &mut [u8],
-    from: Joined,
-    cells: &[u8],
-    sheet: &[u8],
-    first: Slots,
-    side: Side,
-) -> Joined
-    requires { JoinedIn from × SlotsIn cells.now sheet.now first }
-    ensures joined_in { JoinedIn result × (length border.new ≡ length border.old) }
-    ensures joins_rest { JoinsRest side border.old from cells.now sheet.now first border.new result }
+// A join at each inner edge of a row, above or below. The answer is where the last seat ends.
+pub fn join_edges(border: &mut BorderHoriz<'_>, row: &Row<'_>, side: Side) -> usize
+    ensures room { length border.new.buffer.now ≡ length border.old.buffer.now }
+    ensures joins_edges { JoinsEdges side border.old row.now border.new result }
 {
-    let mut st = first;
-    let mut joined = from;
-    loop {
-        let next = next_slot(cells, sheet, st);
-        match next {
-            Next::Is { seat, rest } => {
-                joined = join_next(border, joined, seat.width, side);
-                st = rest;
-            }
-            Next::NoMore(_) => {
-                return joined;
-            }
-        }
+    let mut end = None;
+    for seat in row.iter() {
+        end = Some(join_next(border, end, seat.width, side));
     }
-}
-
-// A join at each inner edge of a row, above or below.
-pub fn join_edges(
-    border: &mut [u8],
-    len: usize,
-    cells: &[u8],
-    sheet: &[u8],
-    width: &[usize; 16],
-    kept: Kept,
-    side: Side,
-) -> Joined
-    requires { (kept.n ≤ 16) × AllNarrow width.now kept.n × SlotsIn cells.now sheet.now kept.rest }
-    ensures joined_in { JoinedIn result × (length border.new ≡ length border.old) }
-    ensures joins_edges { JoinsEdges side border.old len cells.now sheet.now width.now kept border.new result }
-{
-    let j = join_kept(border, len, width, kept.n, side);
-    if kept.more {
-        let rest = kept.rest;
-        return join_rest(border, j, cells, sheet, rest, side);
-    }
-    j
+    end.unwrap_or(0)
 }

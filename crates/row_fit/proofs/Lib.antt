@@ -1,3 +1,3 @@
 pub mod SeatLaws
-pub mod RowLaws
+pub mod ReachLaws
 pub mod FitLaws

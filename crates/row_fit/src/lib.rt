@@ -2,5 +2,6 @@
 // past the border below the row.
 #![tactic(auto)]
 
+mod reach;
 pub mod row;
 mod seat;

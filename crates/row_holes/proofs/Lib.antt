@@ -1,3 +1,4 @@
+pub mod FilledLaws
 pub mod PieceLaws
 pub mod Pushing
 pub mod ThroughLaws

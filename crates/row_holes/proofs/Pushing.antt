@@ -16,7 +16,8 @@ use Rattle.fields.specs.Sheet.{Piece, str, fragment, piece_bytes, pieces_bytes}
 use Rattle.fields.specs.Widths.{piece_width}
 use Rattle.borders.specs.BorderHoriz.{to_string, up_to_hole, at_hole, into_tagged_from}
 use Rattle.fields.specs.TaggedLine.{join, push_str, push, consume}
-use Rattle.rows.proofs.Lines.{consume_push}
+use Rattle.rows.proofs.Lines.{consume_push, join_long}
+use Rattle.rows.proofs.Front.{consume_piece}
 use Rattle.fields.specs.Spans.{Hole}
 use Rattle.tagged_line.proofs.Holding.{pieces_append}
 use Rattle.extend_lines.proofs.Growing.{size_of, size_cons, size_str, size_none}
@@ -57,17 +58,6 @@ unfolding push_str
 push_adds l a [] = omega arith
 push_adds l a (b ∷ t) = omega (arith, size_join l a (b ∷ t))
 
-join_some : (l : List Piece) (a : ℕ) (t : List ℕ) → 1 ≤ length (join l a t)
-unfolding join
-join_some [] a t = omega arith
-join_some (fragment n ∷ []) a t = omega arith
-join_some (str b s ∷ []) a t = go (eqb b a)
-  where
-    go : (x : Bool) → 1 ≤ length (if x then str b (s ++ t) ∷ [] else str b s ∷ str a t ∷ [])
-    go true = omega arith
-    go false = omega arith
-join_some (p ∷ q ∷ l) a t = omega arith
-
 last_cons : (p : Piece) (l : List Piece) → 1 ≤ length l → last_tag (p ∷ l) ≡ last_tag l
 last_cons p [] h = absurd (omega arith)
 last_cons p (q ∷ l) h = refl
@@ -81,7 +71,7 @@ last_join_lem (str b s ∷ []) a t = go (eqb b a) refl
     go : (x : Bool) → eqb b a ≡ x → last_tag (if x then str b (s ++ t) ∷ [] else str b s ∷ str a t ∷ []) ≡ some a
     go true e = ap some (eqb-true b a e)
     go false e = refl
-last_join_lem (p ∷ q ∷ l) a t = last_cons p (join (q ∷ l) a t) (join_some (q ∷ l) a t) ∙ last_join_lem (q ∷ l) a t
+last_join_lem (p ∷ q ∷ l) a t = last_cons p (join (q ∷ l) a t) (join_long (q ∷ l) a t) ∙ last_join_lem (q ∷ l) a t
 
 last_name : (l : List Piece) (n : List ℕ) → last_tag (l ++ (fragment n ∷ [])) ≡ none
 last_name [] n = refl
@@ -146,16 +136,6 @@ consume_most ps = omega (arith, size_consume [] ps, size_none, cost_most none ps
 
 -- ---- a border's pieces pushed
 
-consume_behind : (l m : List Piece) (n : List ℕ) → consume l (m ++ (fragment n ∷ [])) ≡ consume l m ++ (fragment n ∷ [])
-unfolding consume push
-consume_behind l [] n = refl
-consume_behind l (p ∷ m) n = consume_behind (push l p) m n
-
-consume_one : (l m : List Piece) (p : Piece) → consume l (push m p) ≡ push (consume l m) p
-unfolding push
-consume_one l m (str a t) = consume_push l m a t
-consume_one l m (fragment n) = consume_behind l m n
-
 consume_up_to : (a : ℕ) (segs : List ℕ) (l m : List Piece) (pos x : ℕ) → consume l (up_to_hole a segs m pos x) ≡ up_to_hole a segs (consume l m) pos x
 consume_up_to a segs l m pos x = go (ltb pos x)
   where
@@ -175,4 +155,4 @@ consume_tagged a segs l m pos (h ∷ hs) =
     let next = at_hole pos h.place + piece_width h.piece in
     let u = up_to_hole a segs m pos h.place in
     consume_tagged a segs l (push u h.piece) next hs
-    ∙ ap (λ (z : List Piece). into_tagged_from a segs z next hs) (consume_one l u h.piece ∙ ap (λ (z : List Piece). push z h.piece) (consume_up_to a segs l m pos h.place))
+    ∙ ap (λ (z : List Piece). into_tagged_from a segs z next hs) (consume_piece l u h.piece ∙ ap (λ (z : List Piece). push z h.piece) (consume_up_to a segs l m pos h.place))

@@ -1,47 +1,40 @@
--- The walk over the seats of a row: the cuts and the holes so far, and what the seats ahead add.
+-- The walk over the seats of a row: the cuts and the holes so far, and what the seats that are left add.
 -- Assumes nothing.
 use mathlib.Core.Path.{◌≡◌, refl, sym, ap, subst, ◌∙◌}
-use mathlib.Core.Logic.{inl}
+use mathlib.Core.Logic.{◌⊎◌, inl, ⊎_elim}
 use mathlib.Core.Bool.{Bool, true, false}
 use mathlib.Core.List.{List, [], ◌∷◌, ◌++◌, map, append-nil, append_assoc}
 use Prim.Native.Nat.{ℕ, ◌+◌, ◌-◌, ◌≤◌, ◌<◌}
 use native.Mathlib.Omega.{arith}
-use lib.Dec.{ltb}
+use lib.Dec.{leb, ltb}
 use lib.ListN.{length, length-append}
-use borrow.Author.Tests.{le-ltb, lt-ltb, leb-true, leb-false}
-use Rattle.std.specs.Prelude.{if◌then◌else◌}
-use Rattle.characters.proofs.Tests.{clash}
+use borrow.Author.Tests.{leb-false, le-ltb, lt-ltb}
+use Rattle.std.specs.Prelude.{if◌then◌else◌, Option as Maybe, Some, None, Ok, MatchOption}
+use Rattle.std.specs.Bool.{then_some}
+use Rattle.fields.specs.declared.raw.Field.{Field}
 use Rattle.fields.specs.Widths.{piece_width}
 use Rattle.fields.proofs.Back.{Every}
 use Rattle.rows.specs.declared.RenderOptions.{RenderOptions}
 use Rattle.fields.specs.Spans.{Hole, holes_bytes}
 use Rattle.borders.specs.BorderHoriz.{cut_for}
 use Rattle.rows.specs.Columns.{Slot, Column, column_of, punch, column_holes, holes_of, cut_all}
-use Rattle.fields.specs.Places.{LinesAt}
+use Rattle.places.specs.Border.{ReadsBorder}
+use Rattle.places.specs.declared.border.Border.{Border}
 use Rattle.slots.specs.declared.seat.Seat.{Seat}
-use Rattle.slots.specs.declared.seat.Slots.{Slots}
-use Rattle.slots.specs.declared.seat.Next.TheVariants.{Is, NoMore}
-use Rattle.slots.specs.Seats.{source, SeatIs, SeatIn, SlotsIn, SlotsLeft, FoundIn, FindsNext}
+use Rattle.seats.specs.Row.{RowIs, SeatsLeft, NextSeat}
+use Rattle.seats.specs.declared.row.Row.{Row}
+use Rattle.seats.specs.declared.row.Seats.{Seats}
+use Rattle.seats.proofs.SurveyLaws.{column_span, column_width}
 use Rattle.long_borders.specs.Keeps.{Near, Keeps, Advances}
-use Rattle.row_holes.specs.Pieces.{HolesPut}
-use Rattle.row_holes.specs.Through.{SeatAt, seat_through, CutsSeat, PutsSeat, PutIs}
-use Rattle.row_holes.specs.Row.{WideSeat, ShortSeat, CutsOne, CutsHoles, HolesIs, PutsOne, HolesIn, PutsHoles}
-use Rattle.row_holes.specs.declared.line.Put.{Put}
+use Rattle.long_borders.specs.declared.border.BorderHoriz.{BorderHoriz}
+use Rattle.row_holes.specs.Pieces.{HolesPut, CutsPieces, PutsPieces}
+use Rattle.row_holes.specs.Through.{LaysBorder, FindsThrough, seat_through}
+use Rattle.row_holes.specs.Row.{WideSeat, ShortSeat, CutsSeat, CutsHoles, PutsSeat, HolesAre, PutsOne, PutsHoles}
 use Rattle.row_holes.proofs.PieceLaws.{put_none, put_then, holes_append}
 use Rattle.row_holes.proofs.Pushing.{consume_most}
-use Rattle.row_holes.proofs.ThroughLaws.{holes_longer}
+use Rattle.row_holes.proofs.ThroughLaws.{Stand, border_size, border_bytes, holes_longer}
 
 -- ---- one seat
-
-pub column_width : (collapse : Bool) (x : Slot) → (column_of collapse x).width ≡ x.width
-unfolding column_of
-column_width false x = refl
-column_width true x = refl
-
-column_span : (collapse : Bool) (x : Slot) → (column_of collapse x).span ≡ x.span
-unfolding column_of
-column_span false x = refl
-column_span true x = refl
 
 -- the holes of a seat that hangs on
 pub hang_holes : (o : RenderOptions) (collapse : Bool) (height pos : ℕ) (x : Slot) → 1 < x.span
@@ -56,40 +49,30 @@ no_holes o collapse height pos x h =
     let e : ltb 1 (column_of collapse x).span ≡ false = ap (ltb 1) (column_span collapse x) ∙ le-ltb 1 x.span (omega (arith, h)) in
     ap (λ (t : Bool). if t then punch pos (seat_through o collapse height x) else []) e
 
--- a seat with its lines where they stand
-pub seat_at : (cells sheet : List ℕ) (seat : Seat) (t : Bool) (x : Slot) → seat.hung ≡ t → SeatIs cells sheet seat x → WideSeat x → 1 < x.span
-    → SeatAt (source cells sheet t) seat.at seat.end seat.width seat.to x
-seat_at cells sheet seat t x e i w h =
-    record {
-      lines_at = subst (λ (b : Bool). LinesAt (source cells sheet b) seat.at seat.end x.lines) e i.lines_at;
-      readable = i.readable;
-      width_is = i.width_is;
-      to_is = i.to_is;
-      wide = omega (arith, w h, i.width_is);
-    }
-
-pub seat_inside : (cells sheet : List ℕ) (seat : Seat) (t : Bool) → seat.hung ≡ t → SeatIn cells sheet seat → seat.end ≤ length (source cells sheet t)
-seat_inside cells sheet seat t e i = subst (λ (b : Bool). seat.end ≤ length (source cells sheet b)) e i.inside
-
-pub cuts_one : (cells sheet : List ℕ) (seat : Seat) (t : Bool) (b b' : List ℕ) (n a : ℕ) (collapse : Bool) (height pos room r : ℕ) → seat.hung ≡ t → 2 ≤ seat.span
-    → CutsSeat b n a (source cells sheet t) seat.at seat.end seat.width seat.to collapse height pos room b' r
-    → CutsOne b n a cells sheet seat collapse height pos room b' r
-cuts_one cells sheet seat t b b' n a collapse height pos room r e h cut o ea x i w s pos₀ near border keeps =
-    let k : 1 < x.span = omega (arith, h, i.span_is) in
-    rw (hang_holes o collapse height pos₀ x k) (cut x (seat_at cells sheet seat t x e i w k) o ea (s k) pos₀ near border keeps)
-
-pub cuts_none : (cells sheet : List ℕ) (seat : Seat) (b : List ℕ) (n a : ℕ) (collapse : Bool) (height pos room : ℕ) → seat.span < 2
-    → CutsOne b n a cells sheet seat collapse height pos room b n
+-- The seat does not hang on.
+pub cuts_none : (seat : Seat) (b : BorderHoriz) (a : ℕ) (collapse : Bool) (height pos room : ℕ) → seat.span < 2 → CutsSeat b a seat collapse height pos room b
 unfolding cut_all
-cuts_none cells sheet seat b n a collapse height pos room h o ea x i w s pos₀ near border keeps =
-    let k : x.span < 2 = omega (arith, h, i.span_is) in
-    rw (no_holes o collapse height pos₀ x k) keeps
+cuts_none seat b a collapse height pos room h o ea x is w s pos₀ near border keeps = rw (no_holes o collapse height pos₀ x (omega (arith, h, is.span_is))) keeps
 
--- the buffer keeps its length
-pub cuts_room : (cells sheet : List ℕ) (seat : Seat) (b b' : List ℕ) (n a : ℕ) (collapse : Bool) (height pos room room' r : ℕ) → room ≡ room'
-    → CutsOne b n a cells sheet seat collapse height pos room b' r → CutsOne b n a cells sheet seat collapse height pos room' b' r
-cuts_room cells sheet seat b b' n a collapse height pos room room' r e k =
-    subst (λ (m : ℕ). CutsOne b n a cells sheet seat collapse height pos m b' r) e k
+-- The pieces stand in bytes.
+pub cuts_there : (seat : Seat) (b b' : BorderHoriz) (a : ℕ) (collapse : Bool) (height pos room : ℕ) (s : List ℕ) (to : ℕ) → 2 ≤ seat.span → Stand seat collapse height s to a
+    → CutsPieces b s to a pos b' → CutsSeat b a seat collapse height pos room b'
+cuts_there seat b b' a collapse height pos room s to h stand cuts o ea x is w short pos₀ near border keeps =
+    let k : 1 < x.span = omega (arith, h, is.span_is) in
+    let f = stand x is (w k) o ea in
+    rw (hang_holes o collapse height pos₀ x k, ← f.filled_are) (cuts f.pieces f.reads f.formed pos₀ near border keeps)
+
+-- A place past the buffer.
+pub past_room : (end n m : ℕ) → (end < 3) ⊎ (n < end) → 3 ≤ end → n ≡ m → m < end
+past_room end n m past h e = ⊎_elim (λ k. omega arith) (λ k. omega arith) past
+
+-- There is no room to lay the border.
+pub cuts_long : (seat : Seat) (collapse : Bool) (height : ℕ) (f : Field) → FindsThrough seat collapse height (Some (Ok f)) → (f.letter ≡ 0x4C → ⊥) → 2 ≤ seat.span
+    → (r : Border) → ReadsBorder f.letter f.content.now r → (laid : List ℕ) (end : ℕ) → LaysBorder r seat.to laid end
+    → (b : BorderHoriz) (a pos room : ℕ) → room < end → CutsSeat b a seat collapse height pos room b
+cuts_long seat collapse height f found other h r rb laid end lays b a pos room long o ea x is w short pos₀ near border keeps =
+    let e = border_size seat collapse height f found other r rb laid end lays x is o in
+    absurd (omega (arith, e, short (omega (arith, h, is.span_is)), long))
 
 -- ---- the walk with the cuts
 
@@ -104,60 +87,62 @@ pub holes_first : (o : RenderOptions) (height pos : ℕ) (c : Column) (cs : List
 unfolding holes_of
 holes_first o height pos c cs w e = ap (λ (n : ℕ). column_holes o height pos c ++ holes_of o height (pos + n + 1) cs) e
 
--- the seats ahead, and the border as it is cut so far
-pub record CutAhead (cells sheet : List ℕ) (o : RenderOptions) (collapse : Bool) (height room : ℕ) (st : Slots) (b : List ℕ) (n pos : ℕ) (whole : List ℕ) (total : ℕ) : Type 0 where
+-- the seats that are left, and the border as it is cut so far
+pub record CutAhead (o : RenderOptions) (collapse : Bool) (height room : ℕ) (st : Seats) (b : BorderHoriz) (pos : ℕ) (whole : List ℕ) (total : ℕ) : Type 0 where
   pub more : List Slot
   pub place : ℕ
   pub border : List ℕ
-  pub goes : SlotsLeft cells sheet st more total
+  pub goes : SeatsLeft st more total
   pub wide : Every WideSeat more
   pub short : Every (ShortSeat o collapse height room) more
   pub near : Near pos place
-  pub keeps : Keeps b n border
+  pub keeps : Keeps b border
   pub cut : whole ≡ cut_all border (holes_of o height place (map (column_of collapse) more))
 
--- of all seats that were ahead at first
-pub record Cutting (cells sheet : List ℕ) (a : ℕ) (collapse : Bool) (height room : ℕ) (first st : Slots) (b₀ : List ℕ) (n₀ : ℕ) (b : List ℕ) (n pos : ℕ) : Type 0 where
-  pub low : SlotsIn cells sheet st
-  pub pos_low : pos < 8589934592
-  pub same : (o : RenderOptions) → o.annotation ≡ a → (xs : List Slot) (total : ℕ) → SlotsLeft cells sheet first xs total → Every WideSeat xs
-      → Every (ShortSeat o collapse height room) xs → (border : List ℕ) → Keeps b₀ n₀ border
-      → CutAhead cells sheet o collapse height room st b n pos (cut_all border (holes_of o height 0 (map (column_of collapse) xs))) total
+-- of all seats that were left at first; the buffers keep their lengths
+pub record Cutting (a : ℕ) (collapse : Bool) (height : ℕ) (first : Seats) (b₀ : BorderHoriz) (laid₀ : List ℕ) (st : Seats) (b : BorderHoriz) (laid : List ℕ) (pos : ℕ) : Type 0 where
+  pub low : pos < 8589934592
+  pub room : length b.buffer.now ≡ length b₀.buffer.now
+  pub laid_room : length laid ≡ length laid₀
+  pub same : (o : RenderOptions) → o.annotation ≡ a → (xs : List Slot) (total : ℕ) → SeatsLeft first xs total → Every WideSeat xs
+      → Every (ShortSeat o collapse height (length laid₀)) xs → (border : List ℕ) → Keeps b₀ border
+      → CutAhead o collapse height (length laid₀) st b pos (cut_all border (holes_of o height 0 (map (column_of collapse) xs))) total
 
-pub cut_start : (cells sheet : List ℕ) (a : ℕ) (collapse : Bool) (height room : ℕ) (first : Slots) (b : List ℕ) (n : ℕ) → SlotsIn cells sheet first
-    → Cutting cells sheet a collapse height room first first b n b n 0
-cut_start cells sheet a collapse height room first b n i =
+pub cut_start : (a : ℕ) (collapse : Bool) (height : ℕ) (first : Seats) (b : BorderHoriz) (laid : List ℕ) → Cutting a collapse height first b laid first b laid 0
+cut_start a collapse height first b laid =
     record {
-      low = i;
-      pos_low = omega arith;
-      same =
-          λ o ea xs total l w s border k.
-          record { more = xs; place = 0; border = border; goes = l; wide = w; short = s; near = inl refl; keeps = k; cut = refl };
+      low = omega arith;
+      room = refl;
+      laid_room = refl;
+      same = λ o ea xs total l w s border k. record { more = xs; place = 0; border = border; goes = l; wide = w; short = s; near = inl refl; keeps = k; cut = refl };
     }
 
 -- ONE SEAT MORE.
-pub cut_on : (cells sheet : List ℕ) (a : ℕ) (collapse : Bool) (height room : ℕ) (first st : Slots) (b₀ : List ℕ) (n₀ : ℕ) (b : List ℕ) (n pos : ℕ) (seat : Seat) (rest : Slots) (b' : List ℕ) (n' pos' : ℕ)
-    → Cutting cells sheet a collapse height room first st b₀ n₀ b n pos → FoundIn cells sheet st seat rest → FindsNext cells sheet st (Is seat rest)
-    → CutsOne b n a cells sheet seat collapse height pos room b' n' → pos' < 8589934592 → Advances pos (seat.width + 1) pos'
-    → Cutting cells sheet a collapse height room first rest b₀ n₀ b' n' pos'
-cut_on cells sheet a collapse height room first st b₀ n₀ b n pos seat rest b' n' pos' v i f cuts l adv =
+pub cut_on : (a : ℕ) (collapse : Bool) (height : ℕ) (first : Seats) (b₀ : BorderHoriz) (laid₀ : List ℕ) (st : Seats) (b : BorderHoriz) (laid : List ℕ) (pos : ℕ)
+    (seat : Seat) (rest : Seats) (b' : BorderHoriz) (laid' : List ℕ) (pos' : ℕ)
+    → Cutting a collapse height first b₀ laid₀ st b laid pos → NextSeat st (Some seat) rest
+    → length b'.buffer.now ≡ length b.buffer.now → length laid' ≡ length laid → CutsSeat b a seat collapse height pos (length laid) b'
+    → pos' < 8589934592 → Advances pos (seat.width + 1) pos' → Cutting a collapse height first b₀ laid₀ rest b' laid' pos'
+cut_on a collapse height first b₀ laid₀ st b laid pos seat rest b' laid' pos' v next room laid_room cuts low adv =
     record {
-      low = i.rest_in;
-      pos_low = l;
+      low = low;
+      room = room ∙ v.room;
+      laid_room = laid_room ∙ v.laid_room;
       same = λ o ea xs total y w s border k. go o ea _ total (v.same o ea xs total y w s border k);
     }
   where
-    go : (o : RenderOptions) → o.annotation ≡ a → (all : List ℕ) (total : ℕ) → CutAhead cells sheet o collapse height room st b n pos all total
-        → CutAhead cells sheet o collapse height room rest b' n' pos' all total
+    go : (o : RenderOptions) → o.annotation ≡ a → (all : List ℕ) (total : ℕ) → CutAhead o collapse height (length laid₀) st b pos all total
+        → CutAhead o collapse height (length laid₀) rest b' pos' all total
     go o ea all total h =
-        let y = f h.more total h.goes in
+        let y = next h.more total h.goes in
         let x = y.one in
         let c = column_of collapse x in
         let cs = map (column_of collapse) y.more in
         let w : Every WideSeat (x ∷ y.more) = subst (Every WideSeat) y.are h.wide in
-        let s : Every (ShortSeat o collapse height room) (x ∷ y.more) = subst (Every (ShortSeat o collapse height room)) y.are h.short in
+        let s : Every (ShortSeat o collapse height (length laid₀)) (x ∷ y.more) = subst (Every (ShortSeat o collapse height (length laid₀))) y.are h.short in
         let cw : c.width ≡ seat.width = column_width collapse x ∙ y.seat_is.width_is in
         let e : h.place + (seat.width + 1) ≡ h.place + seat.width + 1 = omega arith in
+        let fit : ShortSeat o collapse height (length laid) x = subst (λ (m : ℕ). ShortSeat o collapse height m x) (sym v.laid_room) s.0 in
         record {
           more = y.more;
           place = h.place + seat.width + 1;
@@ -166,83 +151,88 @@ cut_on cells sheet a collapse height room first st b₀ n₀ b n pos seat rest b
           wide = w.1;
           short = s.1;
           near = subst (Near pos') e (adv h.place h.near);
-          keeps = cuts o ea x y.seat_is w.0 s.0 h.place h.near h.border h.keeps;
+          keeps = cuts o ea x y.seat_is w.0 fit h.place h.near h.border h.keeps;
           cut = h.cut ∙ ap (λ (z : List Slot). cut_all h.border (holes_of o height h.place (map (column_of collapse) z))) y.are
               ∙ ap (cut_all h.border) (holes_first o height h.place c cs seat.width cw)
               ∙ cut_append h.border (column_holes o height h.place c) (holes_of o height (h.place + seat.width + 1) cs);
         }
 
 -- PAST THE LAST SEAT.
-pub cut_end : (cells sheet : List ℕ) (a : ℕ) (collapse : Bool) (height room : ℕ) (first st : Slots) (b₀ : List ℕ) (n₀ : ℕ) (b : List ℕ) (n pos t : ℕ)
-    → Cutting cells sheet a collapse height room first st b₀ n₀ b n pos → FindsNext cells sheet st (NoMore t) → CutsHoles b₀ n₀ a cells sheet first collapse height room b n
+pub cut_end : (a : ℕ) (collapse : Bool) (height : ℕ) (first : Seats) (b₀ : BorderHoriz) (laid₀ : List ℕ) (st : Seats) (b : BorderHoriz) (laid : List ℕ) (pos : ℕ) (rest : Seats) (row : Row)
+    → Cutting a collapse height first b₀ laid₀ st b laid pos → NextSeat st None rest → ((xs : List Slot) (total : ℕ) → RowIs row xs total → SeatsLeft first xs total)
+    → CutsHoles b₀ a row collapse height (length laid₀) b
 unfolding holes_of cut_all
-cut_end cells sheet a collapse height room first st b₀ n₀ b n pos t v f o ea xs total y w s border k =
-    let h = v.same o ea xs total y w s border k in
-    let e : h.more ≡ [] = (f h.more total h.goes).0 in
+cut_end a collapse height first b₀ laid₀ st b laid pos rest row v next begins o ea xs total y w s border k =
+    let h = v.same o ea xs total (begins xs total y) w s border k in
+    let e : h.more ≡ [] = (next h.more total h.goes).0 in
     let q : cut_all border (holes_of o height 0 (map (column_of collapse) xs)) ≡ h.border =
     h.cut ∙ ap (λ (z : List Slot). cut_all h.border (holes_of o height h.place (map (column_of collapse) z))) e in
-    subst (Keeps b n) (sym q) h.keeps
+    subst (Keeps b) (sym q) h.keeps
 
 -- ---- one seat as holes
 
-pub puts_none : (cells sheet : List ℕ) (seat : Seat) (out : List ℕ) (base place a : ℕ) (collapse : Bool) (height pos room : ℕ) → seat.span < 2
-    → PutsOne out base place a cells sheet seat collapse height pos room out (record { at = place; long = false })
-puts_none cells sheet seat out base place a collapse height pos room h big o ea x i w pos₀ near =
-    rw (no_holes o collapse height pos₀ x (omega (arith, h, i.span_is))) (put_none out place)
+-- The pieces stand in bytes.
+pub puts_there : (seat : Seat) (out out' : List ℕ) (place a : ℕ) (collapse : Bool) (height pos room : ℕ) (s : List ℕ) (to r : ℕ) → Stand seat collapse height s to a
+    → PutsPieces out place s to a pos out' r → PutsSeat out place a seat collapse height pos room out' (Some r)
+puts_there seat out out' place a collapse height pos room s to r stand puts x is w o ea pos₀ near =
+    let f = stand x is w o ea in
+    rw (← f.filled_are) (puts f.pieces f.reads f.formed pos₀ near)
 
--- the content is too long already
-pub puts_past : (cells sheet : List ℕ) (seat : Seat) (out : List ℕ) (base place a : ℕ) (collapse : Bool) (height pos room r : ℕ) → 65535 < place - base
-    → PutsOne out base place a cells sheet seat collapse height pos room out (record { at = r; long = true })
-puts_past cells sheet seat out base place a collapse height pos room r h big o ea x i w pos₀ near =
-    let n = length (holes_bytes (column_holes o height pos₀ (column_of collapse x))) in
-    omega (arith, h)
+-- There is no room to lay the border.
+pub puts_long : (seat : Seat) (collapse : Bool) (height : ℕ) (f : Field) → FindsThrough seat collapse height (Some (Ok f)) → (f.letter ≡ 0x4C → ⊥)
+    → (r : Border) → ReadsBorder f.letter f.content.now r → (laid : List ℕ) (end : ℕ) → LaysBorder r seat.to laid end
+    → (out out' : List ℕ) (place a pos room : ℕ) (q : Maybe ℕ) → room < end → q ≡ None → PutsSeat out place a seat collapse height pos room out' q
+puts_long seat collapse height f found other r rb laid end lays out out' place a pos room q long none x is w o ea pos₀ near =
+    rw none (omega (arith, border_bytes seat collapse height f found other r rb laid end lays x is o, long, holes_longer pos₀ (seat_through o collapse height x)))
 
-pub puts_one : (cells sheet : List ℕ) (seat : Seat) (t : Bool) (out out' : List ℕ) (base place a : ℕ) (collapse : Bool) (height pos room : ℕ) (r : Put) → seat.hung ≡ t → 2 ≤ seat.span
-    → PutsSeat out place a (source cells sheet t) seat.at seat.end seat.width seat.to collapse height pos room out' r
-    → PutsOne out base place a cells sheet seat collapse height pos room out' r
-puts_one cells sheet seat t out out' base place a collapse height pos room r e h put big o ea x i w pos₀ near =
-    let k : 1 < x.span = omega (arith, h, i.span_is) in
-    rw (hang_holes o collapse height pos₀ x k) (go r.long (put x (seat_at cells sheet seat t x e i w k) o ea pos₀ near))
+-- The seat does not hang on.
+pub puts_none : (seat : Seat) (out : List ℕ) (base place a : ℕ) (collapse : Bool) (height pos room : ℕ) → seat.span < 2
+    → PutsOne out base place a seat collapse height pos room out (Some place)
+puts_none seat out base place a collapse height pos room h big o ea x is w pos₀ near =
+    rw (no_holes o collapse height pos₀ x (omega (arith, h, is.span_is))) (put_none out place)
+
+pub puts_one : (seat : Seat) (out out' : List ℕ) (base place a : ℕ) (collapse : Bool) (height pos room : ℕ) (r : Maybe ℕ) → 2 ≤ seat.span
+    → PutsSeat out place a seat collapse height pos room out' r → PutsOne out base place a seat collapse height pos room out' r
+puts_one seat out out' base place a collapse height pos room r h put big o ea x is w pos₀ near =
+    let k : 1 < x.span = omega (arith, h, is.span_is) in
+    rw (hang_holes o collapse height pos₀ x k) (go r (put x is (w k) o ea pos₀ near))
   where
     hs : List Hole
     hs = punch pos₀ (seat_through o collapse height x)
 
-    go : (l : Bool) → PutIs l out place room hs out' r.at → HolesIs l out base place hs out' r.at
-    go false p = p
-    go true p = omega (arith, p, big)
-
-pub puts_room : (cells sheet : List ℕ) (seat : Seat) (out out' : List ℕ) (base place a : ℕ) (collapse : Bool) (height pos room room' : ℕ) (r : Put) → room ≡ room'
-    → PutsOne out base place a cells sheet seat collapse height pos room out' r → PutsOne out base place a cells sheet seat collapse height pos room' out' r
-puts_room cells sheet seat out out' base place a collapse height pos room room' r e k =
-    subst (λ (m : ℕ). PutsOne out base place a cells sheet seat collapse height pos m out' r) e k
+    go : (r : Maybe ℕ) → MatchOption r (room < 3 + length (holes_bytes hs)) (λ at. HolesPut out place hs out' at) → HolesAre out base place hs out' r
+    go None p = omega (arith, p, big)
+    go (Some at) p = p
 
 -- ---- the walk with the holes
 
--- the seats ahead, and the holes put so far
-pub record PutAhead (cells sheet : List ℕ) (o : RenderOptions) (collapse : Bool) (height : ℕ) (st : Slots) (out₀ : List ℕ) (at₀ : ℕ) (out : List ℕ) (at pos : ℕ) (whole : List Hole) (total : ℕ) : Type 0 where
+-- the seats that are left, and the holes put so far
+pub record PutAhead (o : RenderOptions) (collapse : Bool) (height : ℕ) (st : Seats) (out₀ : List ℕ) (at₀ : ℕ) (out : List ℕ) (at pos : ℕ) (whole : List Hole) (total : ℕ) : Type 0 where
   pub more : List Slot
   pub place : ℕ
   pub done : List Hole
-  pub goes : SlotsLeft cells sheet st more total
+  pub goes : SeatsLeft st more total
   pub wide : Every WideSeat more
   pub near : Near pos place
   pub put : HolesPut out₀ at₀ done out at
   pub are : whole ≡ done ++ holes_of o height place (map (column_of collapse) more)
 
--- of all seats that were ahead at first
-pub record Putting (cells sheet : List ℕ) (base a : ℕ) (collapse : Bool) (height room : ℕ) (first st : Slots) (out₀ : List ℕ) (at₀ : ℕ) (out : List ℕ) (at pos : ℕ) : Type 0 where
-  pub low : SlotsIn cells sheet st
-  pub pos_low : pos < 8589934592
+-- of all seats that were left at first; the buffers keep their lengths
+pub record Putting (base a : ℕ) (collapse : Bool) (height : ℕ) (first : Seats) (out₀ : List ℕ) (at₀ : ℕ) (laid₀ : List ℕ) (st : Seats) (out : List ℕ) (at : ℕ) (laid : List ℕ) (pos : ℕ) : Type 0 where
+  pub low : pos < 8589934592
+  pub size : length out ≡ length out₀
+  pub laid_room : length laid ≡ length laid₀
   pub on : base ≤ at
-  pub same : 65538 ≤ room → (o : RenderOptions) → o.annotation ≡ a → (xs : List Slot) (total : ℕ) → SlotsLeft cells sheet first xs total → Every WideSeat xs
-      → PutAhead cells sheet o collapse height st out₀ at₀ out at pos (holes_of o height 0 (map (column_of collapse) xs)) total
+  pub same : 65538 ≤ length laid₀ → (o : RenderOptions) → o.annotation ≡ a → (xs : List Slot) (total : ℕ) → SeatsLeft first xs total → Every WideSeat xs
+      → PutAhead o collapse height st out₀ at₀ out at pos (holes_of o height 0 (map (column_of collapse) xs)) total
 
-pub put_start : (cells sheet : List ℕ) (base a : ℕ) (collapse : Bool) (height room : ℕ) (first : Slots) (out : List ℕ) (at : ℕ) → SlotsIn cells sheet first → base ≤ at
-    → Putting cells sheet base a collapse height room first first out at out at 0
-put_start cells sheet base a collapse height room first out at i h =
+pub put_start : (base a : ℕ) (collapse : Bool) (height : ℕ) (first : Seats) (out : List ℕ) (at : ℕ) (laid : List ℕ) → base ≤ at
+    → Putting base a collapse height first out at laid first out at laid 0
+put_start base a collapse height first out at laid h =
     record {
-      low = i;
-      pos_low = omega arith;
+      low = omega arith;
+      size = refl;
+      laid_room = refl;
       on = h;
       same = λ big o ea xs total l w. record { more = xs; place = 0; done = []; goes = l; wide = w; near = inl refl; put = put_none out at; are = refl };
     }
@@ -257,28 +247,28 @@ ahead_first o collapse height place done all more x xs w e are ew =
     ∙ sym (append_assoc done (column_holes o height place (column_of collapse x)) (holes_of o height (place + w + 1) (map (column_of collapse) xs)))
 
 -- ONE SEAT MORE.
-pub put_on : (cells sheet : List ℕ) (base a : ℕ) (collapse : Bool) (height room : ℕ) (first st : Slots) (out₀ : List ℕ) (at₀ : ℕ) (out : List ℕ) (at pos : ℕ) (seat : Seat) (rest : Slots) (out' : List ℕ) (r : Put) (pos' : ℕ)
-    → Putting cells sheet base a collapse height room first st out₀ at₀ out at pos → FoundIn cells sheet st seat rest → FindsNext cells sheet st (Is seat rest)
-    → PutsOne out base at a cells sheet seat collapse height pos room out' r → r.long ≡ false → base ≤ r.at → pos' < 8589934592 → Advances pos (seat.width + 1) pos'
-    → Putting cells sheet base a collapse height room first rest out₀ at₀ out' r.at pos'
-put_on cells sheet base a collapse height room first st out₀ at₀ out at pos seat rest out' r pos' v i f puts el on l adv =
+pub put_on : (base a : ℕ) (collapse : Bool) (height : ℕ) (first : Seats) (out₀ : List ℕ) (at₀ : ℕ) (laid₀ : List ℕ) (st : Seats) (out : List ℕ) (at : ℕ) (laid : List ℕ) (pos : ℕ)
+    (seat : Seat) (rest : Seats) (out' : List ℕ) (at' : ℕ) (laid' : List ℕ) (pos' : ℕ)
+    → Putting base a collapse height first out₀ at₀ laid₀ st out at laid pos → NextSeat st (Some seat) rest
+    → length out' ≡ length out → length laid' ≡ length laid → base ≤ at' → PutsOne out base at a seat collapse height pos (length laid) out' (Some at')
+    → pos' < 8589934592 → Advances pos (seat.width + 1) pos' → Putting base a collapse height first out₀ at₀ laid₀ rest out' at' laid' pos'
+put_on base a collapse height first out₀ at₀ laid₀ st out at laid pos seat rest out' at' laid' pos' v next size laid_room on puts low adv =
     record {
-      low = i.rest_in;
-      pos_low = l;
+      low = low;
+      size = size ∙ v.size;
+      laid_room = laid_room ∙ v.laid_room;
       on = on;
       same = λ big o ea xs total y w. go big o ea _ total (v.same big o ea xs total y w);
     }
   where
-    go : 65538 ≤ room → (o : RenderOptions) → o.annotation ≡ a → (all : List Hole) (total : ℕ) → PutAhead cells sheet o collapse height st out₀ at₀ out at pos all total
-        → PutAhead cells sheet o collapse height rest out₀ at₀ out' r.at pos' all total
+    go : 65538 ≤ length laid₀ → (o : RenderOptions) → o.annotation ≡ a → (all : List Hole) (total : ℕ) → PutAhead o collapse height st out₀ at₀ out at pos all total
+        → PutAhead o collapse height rest out₀ at₀ out' at' pos' all total
     go big o ea all total h =
-        let y = f h.more total h.goes in
+        let y = next h.more total h.goes in
         let x = y.one in
         let hs = column_holes o height h.place (column_of collapse x) in
         let w : Every WideSeat (x ∷ y.more) = subst (Every WideSeat) y.are h.wide in
         let e : h.place + (seat.width + 1) ≡ h.place + seat.width + 1 = omega arith in
-        let p : HolesPut out at hs out' r.at =
-        subst (λ (b : Bool). HolesIs b out base at hs out' r.at) el (puts big o ea x y.seat_is w.0 h.place h.near) in
         record {
           more = y.more;
           place = h.place + seat.width + 1;
@@ -286,7 +276,7 @@ put_on cells sheet base a collapse height room first st out₀ at₀ out at pos 
           goes = y.goes;
           wide = w.1;
           near = subst (Near pos') e (adv h.place h.near);
-          put = put_then h.put p;
+          put = put_then h.put (puts (omega (arith, big, v.laid_room)) o ea x y.seat_is w.0 h.place h.near);
           are = ahead_first o collapse height h.place h.done all h.more x y.more seat.width h.are y.are y.seat_is.width_is;
         }
 
@@ -301,42 +291,46 @@ all_long base at₀ at done hs ks all e are h =
     omega (arith, e, p, q, h)
 
 -- A SEAT IS TOO LONG.
-pub put_past : (cells sheet : List ℕ) (base a : ℕ) (collapse : Bool) (height room : ℕ) (first st : Slots) (out₀ : List ℕ) (at₀ : ℕ) (out : List ℕ) (at pos : ℕ) (seat : Seat) (rest : Slots) (out' : List ℕ) (r : Put) (n : ℕ)
-    → Putting cells sheet base a collapse height room first st out₀ at₀ out at pos → FindsNext cells sheet st (Is seat rest)
-    → PutsOne out base at a cells sheet seat collapse height pos room out' r → r.long ≡ true
-    → PutsHoles out₀ base at₀ a cells sheet first collapse height room out' (record { at = n; long = true })
-put_past cells sheet base a collapse height room first st out₀ at₀ out at pos seat rest out' r n v f puts el big o ea xs total l w =
-    let h = v.same big o ea xs total l w in
-    let y = f h.more total h.goes in
+pub put_past : (base a : ℕ) (collapse : Bool) (height : ℕ) (first : Seats) (out₀ : List ℕ) (at₀ : ℕ) (laid₀ : List ℕ) (st : Seats) (out : List ℕ) (at : ℕ) (laid : List ℕ) (pos : ℕ)
+    (seat : Seat) (rest : Seats) (out' : List ℕ) (row : Row) (r : Maybe ℕ)
+    → Putting base a collapse height first out₀ at₀ laid₀ st out at laid pos → NextSeat st (Some seat) rest → PutsOne out base at a seat collapse height pos (length laid) out' None
+    → ((xs : List Slot) (total : ℕ) → RowIs row xs total → SeatsLeft first xs total) → r ≡ None → PutsHoles out₀ base at₀ a row collapse height (length laid₀) out' r
+put_past base a collapse height first out₀ at₀ laid₀ st out at laid pos seat rest out' row r v next puts begins none big o ea xs total l w =
+    let h = v.same big o ea xs total (begins xs total l) w in
+    let y = next h.more total h.goes in
     let x = y.one in
     let hs = column_holes o height h.place (column_of collapse x) in
     let wide : Every WideSeat (x ∷ y.more) = subst (Every WideSeat) y.are h.wide in
-    let p : 65535 < (at - base) + length (holes_bytes hs) =
-    subst (λ (b : Bool). HolesIs b out base at hs out' r.at) el (puts big o ea x y.seat_is wide.0 h.place h.near) in
-    all_long base at₀ at h.done hs (holes_of o height (h.place + seat.width + 1) (map (column_of collapse) y.more)) _ h.put.size
-    (ahead_first o collapse height h.place h.done _ h.more x y.more seat.width h.are y.are y.seat_is.width_is) p
+    let p : 65535 < (at - base) + length (holes_bytes hs) = puts (omega (arith, big, v.laid_room)) o ea x y.seat_is wide.0 h.place h.near in
+    rw none
+    (all_long base at₀ at h.done hs (holes_of o height (h.place + seat.width + 1) (map (column_of collapse) y.more)) _ h.put.size
+    (ahead_first o collapse height h.place h.done _ h.more x y.more seat.width h.are y.are y.seat_is.width_is) p)
 
--- PAST THE LAST SEAT.
-pub put_end : (cells sheet : List ℕ) (base a : ℕ) (collapse : Bool) (height room : ℕ) (first st : Slots) (out₀ : List ℕ) (at₀ : ℕ) (out : List ℕ) (at pos t : ℕ) (long : Bool)
-    → Putting cells sheet base a collapse height room first st out₀ at₀ out at pos → FindsNext cells sheet st (NoMore t) → ltb 65535 (at - base) ≡ long
-    → PutsHoles out₀ base at₀ a cells sheet first collapse height room out (record { at = at; long = long })
-unfolding holes_of
-put_end cells sheet base a collapse height room first st out₀ at₀ out at pos t long v f el big o ea xs total l w =
-    let h = v.same big o ea xs total l w in
-    let e : h.more ≡ [] = (f h.more total h.goes).0 in
-    let q : holes_of o height 0 (map (column_of collapse) xs) ≡ h.done =
-    h.are ∙ ap (λ (z : List Slot). h.done ++ holes_of o height h.place (map (column_of collapse) z)) e ∙ append-nil h.done in
-    subst (λ (z : List Hole). HolesIs long out₀ base at₀ z out at) (sym q) (go h.done h.put long el)
-  where
-    go : (hs : List Hole) → HolesPut out₀ at₀ hs out at → (b : Bool) → ltb 65535 (at - base) ≡ b → HolesIs b out₀ base at₀ hs out at
-    go hs p false k = p
-    go hs p true k = omega (arith, p.size, leb-true 65536 (at - base) k)
+-- PAST THE LAST SEAT: the holes, or none where the content is too long.
+module _ (base a : ℕ) (collapse : Bool) (height : ℕ) (first : Seats) (out₀ : List ℕ) (at₀ : ℕ) (laid₀ : List ℕ) (st : Seats) (out : List ℕ) (at : ℕ) (laid : List ℕ) (pos : ℕ) (rest : Seats) (row : Row)
+    (v : Putting base a collapse height first out₀ at₀ laid₀ st out at laid pos) (next : NextSeat st None rest)
+    (begins : (xs : List Slot) (total : ℕ) → RowIs row xs total → SeatsLeft first xs total) where
+  all_put : 65538 ≤ length laid₀ → (o : RenderOptions) → o.annotation ≡ a → (xs : List Slot) (total : ℕ) → RowIs row xs total → Every WideSeat xs
+      → HolesPut out₀ at₀ (holes_of o height 0 (map (column_of collapse) xs)) out at
+  unfolding holes_of
+  all_put big o ea xs total l w =
+      let h = v.same big o ea xs total (begins xs total l) w in
+      let q : holes_of o height 0 (map (column_of collapse) xs) ≡ h.done =
+      h.are ∙ ap (λ (z : List Slot). h.done ++ holes_of o height h.place (map (column_of collapse) z)) (next h.more total h.goes).0 ∙ append-nil h.done in
+      rw q h.put
 
-pub end_in : (base at : ℕ) (long : Bool) → base ≤ at → ltb 65535 (at - base) ≡ long → HolesIn base (record { at = at; long = long })
-end_in base at long h e = record { on = h; few = λ k. omega (arith, leb-false 65536 (at - base) (e ∙ k)) }
+  pub put_end : (r : Maybe ℕ) → r ≡ then_some (leb (at - base) 65535) at → PutsHoles out₀ base at₀ a row collapse height (length laid₀) out r
+  put_end r e big o ea xs total l w = rw e (go (leb (at - base) 65535) refl)
+    where
+      hs : List Hole
+      hs = holes_of o height 0 (map (column_of collapse) xs)
 
-pub past_in : (base : ℕ) → HolesIn base (record { at = base; long = true })
-past_in base = record { on = omega arith; few = λ k. absurd (clash refl k) }
+      put : HolesPut out₀ at₀ hs out at
+      put = all_put big o ea xs total l w
+
+      go : (b : Bool) → leb (at - base) 65535 ≡ b → HolesAre out₀ base at₀ hs out (then_some b at)
+      go true k = put
+      go false k = omega (arith, put.size, leb-false (at - base) 65535 k)
 
 -- Where a field holds all holes, each line is short enough to be laid: the cuts are made.
 pub seats_short : (o : RenderOptions) (collapse : Bool) (height pos : ℕ) (xs : List Slot) → length (holes_bytes (holes_of o height pos (map (column_of collapse) xs))) ≤ 65535

@@ -4,64 +4,58 @@ use mathlib.Core.Path.{◌≡◌, refl, sym, ap, subst, ◌∙◌}
 use mathlib.Core.Bool.{Bool, true, false, not}
 use mathlib.Core.Logic.{inl, ⊎_elim}
 use mathlib.Core.List.{List, [], ◌∷◌, ◌++◌, map, append-nil}
-use Prim.Native.Nat.{ℕ, ◌+◌, ◌-◌, ◌^◌, ◌≤◌, ◌<◌, min}
+use Prim.Native.Nat.{ℕ, ◌+◌, ◌-◌, ◌≤◌, ◌<◌, min}
 use native.Mathlib.Omega.{arith}
 use lib.Dec.{leb, ltb}
 use lib.ListN.{length, drop, replicate, drop_of_length-le}
-use borrow.Author.Tests.{leb-true, leb-false, lt-ltb, le-ltb}
-use Rattle.characters.proofs.Tests.{by_if, lt_or_le, and_left, and_right, clash}
-use Rattle.fields.specs.Field.{part, all, field_at}
+use borrow.Author.Tests.{leb-true, leb-false, lt-ltb, le-ltb, not-false}
+use Rattle.std.specs.Prelude.{Option as Maybe, Some, None, Ok}
+use Rattle.std.specs.Option.{is_some}
+use Rattle.characters.proofs.Tests.{by_if, lt_or_le, and_left, and_right, clash, or_left, or_right}
+use Rattle.fields.specs.Field.{Raw, part, all}
+use Rattle.fields.specs.List.{whole_of}
+use Rattle.fields.specs.declared.raw.Field.{Field}
 use Rattle.fields.specs.Sheet.{Piece, str}
 use Rattle.fields.specs.Widths.{piece_width, width}
-use Rattle.fields.specs.declared.field.Field.TheVariants.{At, Broken, End}
 use Rattle.fields.proofs.Back.{Every}
 use Rattle.fields.proofs.Texts.{rest}
-use Rattle.borders.specs.declared.draw.Drawing.TheVariants.{Segments}
-use Rattle.borders.specs.BorderHoriz.{stretch_to, to_string, drawn, up_to_hole, at_hole, into_tagged_from, border_into_tagged_line}
-use Rattle.borders.proofs.Drawing.{drawn_string}
+use Rattle.borders.specs.BorderHoriz.{stretch_to, to_string, up_to_hole, at_hole, into_tagged_from, border_into_tagged_line}
 use Rattle.rows.specs.declared.RenderOptions.{RenderOptions}
 use Rattle.fields.specs.TaggedLine.{WellFormedPiece, push_str, push, consume, push_ws, pad_to, add_piece}
 use Rattle.rows.proofs.Lines.{consume_pad, consume_pieces, pieces_width, push_formed, add_formed, spaces_formed}
-use Rattle.fields.specs.Spans.{Hole, RenderLine, text, border, readable_hole, readable_line, readable_lines}
+use Rattle.fields.specs.Spans.{Hole, RenderLine, text, border, readable_hole, readable_line}
 use Rattle.rows.specs.SubRenderer.{into_tagged_line, filled}
-use Rattle.rows.specs.Columns.{Slot, column_of, through_of, punch, column_holes, holes_of, any_past}
-use Rattle.bodies.specs.Body.{FindsBody}
-use Rattle.bodies.specs.Walk.{SkipsTo}
-use Rattle.bodies.specs.declared.body.Body.{Body}
-use Rattle.bodies.proofs.LineLaws.{no_lines_lem, first_line, line_broken, line_end_lem}
-use Rattle.bodies.proofs.BodyLaws.{line_border}
-use Rattle.places.specs.Border.{FindsParts}
-use Rattle.places.specs.declared.border.Parts.{Parts}
+use Rattle.rows.specs.Columns.{Slot, column_of, punch, column_holes, holes_of, any_past}
+use Rattle.bodies.proofs.LineLaws.{line_border}
+use Rattle.places.specs.Border.{ReadsBorder}
+use Rattle.places.specs.declared.border.Border.{Border}
 use Rattle.slots.specs.declared.seat.Seat.{Seat}
-use Rattle.slots.specs.declared.seat.Slots.{Slots}
-use Rattle.slots.specs.declared.seat.Next.TheVariants.{Is, NoMore}
-use Rattle.slots.specs.Seats.{source, SlotsIn, SlotsLeft, FoundIn, FindsNext}
+use Rattle.seats.specs.Row.{RowIs, SeatsLeft, NextSeat}
+use Rattle.seats.specs.declared.row.Row.{Row}
+use Rattle.seats.specs.declared.row.Seats.{Seats}
+use Rattle.seats.proofs.SurveyLaws.{column_width}
 use Rattle.holes.specs.Cols.{CountsLine}
-use Rattle.holes.specs.Drawing.{PushesTagged}
-use Rattle.std.proofs.Common.{Option as Maybe}
-use Rattle.std.specs.Option.{is_some}
+use Rattle.holes.specs.Drawing.{DrawsPart, PushesTagged}
 use Rattle.holes.proofs.LineLaws.{has_pieces}
 use Rattle.holes.proofs.Segments.{string_nil}
-use Rattle.holes.proofs.WidthLaws.{formed, string_formed, up_to_wide}
-use Rattle.tagged_line.specs.Held.{Held, Within, LineGrown, Draws, PushesSpaces, new_line}
-use Rattle.tagged_line.specs.Pieces.{AddsPieces}
+use Rattle.holes.proofs.WidthLaws.{string_formed, up_to_wide}
+use Rattle.tagged_line.specs.Held.{Held, LineGrown, PushesSpaces, new_line}
 use Rattle.tagged_line.specs.declared.line.Line.{Line}
-use Rattle.extend_lines.specs.Emitted.{LineBegun}
+use Rattle.tagged_line.proofs.Laying.{all_formed, formed}
 use Rattle.extend_lines.specs.declared.line.Lines.{Lines}
 use Rattle.extend_lines.proofs.Emitting.{held_new}
+use Rattle.extend_lines.proofs.Growing.{size_of, size_none, grow_str, grow_push}
 use Rattle.long_borders.specs.Keeps.{Near, Advances}
 use Rattle.long_borders.proofs.Laws.{near_low, near_sym}
 use Rattle.row_lines.specs.Row.{is_long}
-use Rattle.extend_lines.proofs.Growing.{or_first, or_second, size_of, size_none, grow_str, grow_push}
-use Rattle.row_lines.proofs.Growing.{short_line}
-use Rattle.row_lines.proofs.SeatLaws.{text_filled, text_full}
-use Rattle.row_lines.proofs.RowLaws.{start_of, start_at}
-use Rattle.row_holes.specs.Through.{seat_through}
+use Rattle.row_lines.specs.Seat.{AddsCellText}
+use Rattle.row_lines.proofs.SeatLaws.{text_pieces}
+use Rattle.row_holes.specs.Through.{FindsThrough, seat_through}
 use Rattle.row_holes.specs.Row.{WideSeat, ShortSeat}
-use Rattle.row_holes.specs.Text.{segments_most, hole_most, PushesSegments, PushesText, PushesLine, Punches, PushesThere, PushesSeat, PushesOne, PushesHoles}
+use Rattle.row_holes.specs.Text.{hole_most, PushesUpToHole, PushesLine, Punches, PushesThere, PushesSeat, PushesHoles}
 use Rattle.row_holes.proofs.Pushing.{consume_least, consume_tagged}
-use Rattle.row_holes.proofs.ThroughLaws.{text_pieces, all_formed, from_there, readable_there, same_width, same_to}
-use Rattle.row_holes.proofs.RowLaws.{hang_holes, no_holes, seat_at, column_width, holes_first}
+use Rattle.row_holes.proofs.ThroughLaws.{through_none, through_line}
+use Rattle.row_holes.proofs.RowLaws.{hang_holes, no_holes, holes_first}
 
 -- ---- the holes of one line
 
@@ -135,46 +129,50 @@ grow_tagged a segs l pos (h ∷ hs) =
 
 -- ---- holes within the border
 
-not_off : (b : Bool) → not b ≡ false → b ≡ true
-not_off true e = refl
-not_off false e = absurd (clash refl e)
-
 past_first : (n : ℕ) (hs ks : List Hole) → any_past n (hs ++ ks) ≡ false → any_past n hs ≡ false
 unfolding any_past
 past_first n [] ks e = refl
 past_first n (h ∷ hs) ks e =
     let t = not (leb (h.place + piece_width h.piece) n) in
-    rw (or_first t (any_past n (hs ++ ks)) e) (past_first n hs ks (or_second t (any_past n (hs ++ ks)) e))
+    rw (or_left t (any_past n (hs ++ ks)) e) (past_first n hs ks (or_right t (any_past n (hs ++ ks)) e))
 
 past_second : (n : ℕ) (hs ks : List Hole) → any_past n (hs ++ ks) ≡ false → any_past n ks ≡ false
 unfolding any_past
 past_second n [] ks e = e
-past_second n (h ∷ hs) ks e = past_second n hs ks (or_second (not (leb (h.place + piece_width h.piece) n)) (any_past n (hs ++ ks)) e)
+past_second n (h ∷ hs) ks e = past_second n hs ks (or_right (not (leb (h.place + piece_width h.piece) n)) (any_past n (hs ++ ks)) e)
 
 first_within : (n x : ℕ) (q : Piece) (ps : List Piece) → any_past n (punch x (q ∷ ps)) ≡ false → x ≤ n
 unfolding any_past punch
 first_within n x q ps e =
     let w = piece_width q in
-    let h = leb-true (x + w) n (not_off (leb (x + w) n) (or_first (not (leb (x + w) n)) (any_past n (punch (x + w) ps)) e)) in
+    let h = leb-true (x + w) n (not-false (leb (x + w) n) (or_left (not (leb (x + w) n)) (any_past n (punch (x + w) ps)) e)) in
     omega (arith, h)
 
--- ---- `push_segments`
+-- ---- `push_up_to_hole`
 
 stretch_none : (b : List ℕ) → stretch_to b 0 ≡ b
 unfolding stretch_to
 stretch_none b = let e : 0 - length b ≡ 0 = omega arith in rw e (append-nil b)
 
--- None are left up to the place.
-pub segments_none : (out : List ℕ) (p : Line) (a : ℕ) (segs : List ℕ) (x to : ℕ) → to ≡ min x (length segs) → to ≤ p.cols → PushesSegments out p a segs x out p
-segments_none out p a segs x to e h k st l g = rw (le-ltb p.cols x (omega arith)) g
+-- The segments up to a place within the border are a part of it.
+pub up_to_part : (out out' : List ℕ) (p r : Line) (a : ℕ) (segs : List ℕ) (x to : ℕ) → to ≡ min x (length segs) → DrawsPart out p a segs p.cols to out' r
+    → PushesUpToHole out p a segs x out' r
+unfolding push_str
+up_to_part out out' p r a segs x to e d k st l h = ⊎_elim on none (lt_or_le p.cols x)
+  where
+    same : to ≡ x
+    same = omega (arith, e, k)
 
-pub segments_drawn : (out out' : List ℕ) (p r : Line) (a : ℕ) (segs : List ℕ) (x to : ℕ) → to ≡ min x (length segs) → p.cols < to
-    → Draws out p a (part p.cols to segs) 0 Segments out' r → PushesSegments out p a segs x out' r
-segments_drawn out out' p r a segs x to e h d k st l g =
-    let same : to ≡ x = omega arith in
-    let s : drawn Segments (stretch_to (part p.cols to segs) 0) ≡ to_string (part p.cols x segs) =
-    drawn_string (stretch_to (part p.cols to segs) 0) ∙ ap to_string (stretch_none (part p.cols to segs)) ∙ ap (λ (i : ℕ). to_string (part p.cols i segs)) same in
-    rw (lt-ltb p.cols x (omega arith)) (rw (← s) (d st l g))
+    drawn : Held st (push_str l a (to_string (part p.cols x segs))) out' r
+    drawn = rw (same, stretch_none segs) at (d 0 (rw (stretch_none segs) (omega (arith, e))) st l h)
+
+    on : p.cols < x → Held st (up_to_hole a segs l p.cols x) out' r
+    on j = rw (lt-ltb p.cols x j) drawn
+
+    none : x ≤ p.cols → Held st (up_to_hole a segs l p.cols x) out' r
+    none j =
+        let z : x - p.cols ≡ 0 = omega arith in
+        rw (le-ltb p.cols x j) (rw (z, string_nil) at drawn)
 
 -- All that are left are those up to the border's end.
 up_to_end : (a : ℕ) (segs : List ℕ) (l : List Piece) (pos : ℕ) → up_to_hole a segs l pos (length segs) ≡ into_tagged_from a segs l pos []
@@ -182,36 +180,23 @@ unfolding into_tagged_from push_str
 up_to_end a segs l pos =
     ⊎_elim (λ k. rw (lt-ltb pos (length segs) k, rest segs pos)) (λ k. rw (le-ltb pos (length segs) k, drop_of_length-le segs k, string_nil)) (lt_or_le pos (length segs))
 
--- ---- `push_text`
-
--- Spaces fill it.
-pub text_spaces : (out mid out' : List ℕ) (p q r : Line) (a : ℕ) (content : List ℕ) (to used : ℕ) → AddsPieces out p content true true mid q → used ≡ q.cols - p.cols
-    → PushesSpaces mid q (to - used) a out' r → PushesText out p a content to out' r
-text_spaces out mid out' p q r a content to used f u g o ea =
-    text_filled out mid p q content used f u out' r o to (subst (λ (b : ℕ). PushesSpaces mid q (to - used) b out' r) (sym ea) g)
-
--- It is full.
-pub text_bare : (out mid : List ℕ) (p q : Line) (a : ℕ) (content : List ℕ) (to used : ℕ) → AddsPieces out p content true true mid q → used ≡ q.cols - p.cols → to ≤ used
-    → PushesText out p a content to mid q
-text_bare out mid p q a content to used f u k o ea = text_full out mid p q content used f u o to k
-
 -- ---- `push_line`
 
 -- A text.
-pub line_text : (out out' : List ℕ) (p r : Line) (a letter : ℕ) (content : List ℕ) (to : ℕ) → letter ≡ 0x4C → PushesText out p a content to out' r
-    → PushesLine out p a letter content to out' r
+pub line_text : (out out' : List ℕ) (p r : Line) (a : ℕ) (f : Field) (to : ℕ) → f.letter ≡ 0x4C → AddsCellText out p a f.content.now to out' r
+    → PushesLine out p a (whole_of f) to out' r
 unfolding filled
-line_text out out' p r a letter content to el f o ea g e ok st l h =
-    let (ps, pieces, is) = text_pieces letter content g el e in
-    rw (is, consume_pad) (f o ea ps pieces (rw is at ok) st l h)
+line_text out out' p r a f to el adds o ea g e ok st l h =
+    let (ps, pieces, is) = text_pieces f.letter f.content.now g el e in
+    rw (is, consume_pad, ea) (adds ps pieces (rw is at ok) st l h)
 
 -- A border.
-pub line_border_pushed : (out out' : List ℕ) (p r : Line) (a letter : ℕ) (content : List ℕ) (to : ℕ) (q : Parts) → (letter ≡ 0x4C → ⊥) → FindsParts letter content q
-    → PushesTagged out p content q.segs q.holes to out' r → PushesLine out p a letter content to out' r
+pub line_border_pushed : (out out' : List ℕ) (p r : Line) (a : ℕ) (f : Field) (to : ℕ) (q : Border) → (f.letter ≡ 0x4C → ⊥) → ReadsBorder f.letter f.content.now q
+    → PushesTagged out p q to out' r → PushesLine out p a (whole_of f) to out' r
 unfolding filled border_into_tagged_line consume
-line_border_pushed out out' p r a letter content to q d f t o ea (text ps) e ok st l h = absurd (clash (line_border letter content (text ps) e d) refl)
-line_border_pushed out out' p r a letter content to q d f t o ea (border b ss hs) e ok st l h =
-    rw (consume_tagged b (stretch_to ss to) l [] 0 hs) (t b ss hs (f b ss hs e) ok st l h)
+line_border_pushed out out' p r a f to q d reads t o ea (text ps) e ok st l h = absurd (clash (line_border f.letter f.content.now (text ps) e d) refl)
+line_border_pushed out out' p r a f to q d reads t o ea (border b ss hs) e ok st l h =
+    rw (consume_tagged b (stretch_to ss to) l [] 0 hs) (t b ss hs (reads b ss hs e) ok st l h)
 
 -- ---- holes on the line
 
@@ -222,7 +207,7 @@ on_none out p a segs hs e past st l h =
 
 -- The holes of pieces that are pushed behind the segments.
 pub on_pieces : (out mid out' : List ℕ) (p m r : Line) (a : ℕ) (segs : List ℕ) (x x₀ : ℕ) (ps : List Piece) → length segs ≤ 65536 → Near x x₀ → 1 ≤ length ps
-    → Every WellFormedPiece ps → PushesSegments out p a segs x mid m → ((st : List ℕ) (l : List Piece) → Held st l mid m → Held st (consume l ps) out' r)
+    → Every WellFormedPiece ps → PushesUpToHole out p a segs x mid m → ((st : List ℕ) (l : List Piece) → Held st l mid m → Held st (consume l ps) out' r)
     → Punches out p a segs (punch x₀ ps) out' r
 on_pieces out mid out' p m r a segs x x₀ [] small near Some-of f g k past st l h = absurd (omega arith)
 on_pieces out mid out' p m r a segs x x₀ (q ∷ ps) small near Some-of f g k past st l h =
@@ -246,17 +231,17 @@ no_pieces : (ps : List Piece) → leb 1 (length ps) ≡ false → ps ≡ []
 no_pieces [] e = refl
 no_pieces (q ∷ ps) e = absurd (let h = leb-false 1 (length (q ∷ ps)) e in omega arith)
 
-pub there_none : (out : List ℕ) (p : Line) (a : ℕ) (segs : List ℕ) (letter : ℕ) (content : List ℕ) (to x : ℕ) (c : Maybe ℕ) → CountsLine letter content to c → is_some c ≡ false
-    → PushesThere out p a segs letter content to x out p
+pub there_none : (out : List ℕ) (p : Line) (a : ℕ) (segs : List ℕ) (field : Raw) (to x : ℕ) (c : Maybe ℕ) → CountsLine field to c → is_some c ≡ false
+    → PushesThere out p a segs field to x out p
 unfolding punch
-there_none out p a segs letter content to x c counts e o ea g read ok x₀ near =
+there_none out p a segs field to x c counts e o ea g read ok x₀ near =
     on_none out p a segs (punch x₀ (into_tagged_line (filled o to g)))
     (ap (punch x₀) (no_pieces (into_tagged_line (filled o to g)) (sym (has_pieces c _ (counts g o read ok)) ∙ e)))
 
-pub there_on : (out mid out' : List ℕ) (p m r : Line) (a : ℕ) (segs : List ℕ) (letter : ℕ) (content : List ℕ) (to x : ℕ) (c : Maybe ℕ) → length segs ≤ 65536
-    → CountsLine letter content to c → is_some c ≡ true → PushesSegments out p a segs x mid m → PushesLine mid m a letter content to out' r
-    → PushesThere out p a segs letter content to x out' r
-there_on out mid out' p m r a segs letter content to x c small counts e g k o ea line read ok x₀ near =
+pub there_on : (out mid out' : List ℕ) (p m r : Line) (a : ℕ) (segs : List ℕ) (field : Raw) (to x : ℕ) (c : Maybe ℕ) → length segs ≤ 65536
+    → CountsLine field to c → is_some c ≡ true → PushesUpToHole out p a segs x mid m → PushesLine mid m a field to out' r
+    → PushesThere out p a segs field to x out' r
+there_on out mid out' p m r a segs field to x c small counts e g k o ea line read ok x₀ near =
     on_pieces out mid out' p m r a segs x x₀ (into_tagged_line (filled o to line)) small near
     (leb-true 1 (length (into_tagged_line (filled o to line))) (sym (has_pieces c _ (counts line o read ok)) ∙ e)) (line_formed o to line ok) g (k o ea line read ok)
 
@@ -267,90 +252,77 @@ consume_spaces : (l : List Piece) (a n : ℕ) → consume l (str a (replicate n 
 unfolding consume push push_ws
 consume_spaces l a n = refl
 
-module _ (s : List ℕ) (at end w to : ℕ) (collapse : Bool) (height : ℕ) (b : Body) (p : ℕ) (fb : FindsBody s at end collapse b) (sk : SkipsTo s b.at b.end height p)
-    (out out' : List ℕ) (line r : Line) (a : ℕ) (segs : List ℕ) (x : ℕ) where
+module _ (seat : Seat) (out out' : List ℕ) (line r : Line) (a : ℕ) (segs : List ℕ) (collapse : Bool) (height x : ℕ) where
+  -- The seat does not hang on.
+  pub seat_none : seat.span < 2 → PushesSeat out line a segs seat collapse height x out line
+  seat_none h o ea y is w x₀ near =
+      on_none out line a segs (column_holes o height x₀ (column_of collapse y)) (no_holes o collapse height x₀ y (omega (arith, h, is.span_is)))
+
   -- No line is left: spaces.
-  pub seat_none : (mid : List ℕ) (m : Line) → length segs ≤ 65536 → b.end ≤ p → PushesSegments out line a segs x mid m → PushesSpaces mid m w a out' r
-      → PushesSeat out line a segs s at end w to collapse height x out' r
-  seat_none mid m small h g k y seat o ea x₀ near =
-      let ps = str o.annotation (replicate (column_of collapse y).width 0x20) ∷ [] in
-      let is : seat_through o collapse height y ≡ ps =
-      ap (λ (ls : List RenderLine). through_of o (column_of collapse y) ls) (no_lines_lem s p b.end (drop height (column_of collapse y).lines) h (from_there s at end w to collapse height b p fb sk y seat)) in
-      let same : (column_of collapse y).width ≡ w = same_width s at end w to collapse height b p fb sk y ∙ seat.width_is in
-      subst (λ (z : List Piece). Punches out line a segs (punch x₀ z) out' r) (sym is)
-      (on_pieces out mid out' line m r a segs x x₀ ps small near (omega arith) (spaces_formed (column_of collapse y).width, tt) g
-      (λ st l held. rw (ea, same, consume_spaces l a w) (k st l held)))
+  pub seat_spaces : (mid : List ℕ) (m : Line) → 2 ≤ seat.span → length segs ≤ 65536 → FindsThrough seat collapse height None → PushesUpToHole out line a segs x mid m
+      → PushesSpaces mid m seat.width a out' r → PushesSeat out line a segs seat collapse height x out' r
+  seat_spaces mid m h small found g spaces o ea y is w x₀ near =
+      let ps = str o.annotation (replicate y.width 0x20) ∷ [] in
+      let e : column_holes o height x₀ (column_of collapse y) ≡ punch x₀ ps =
+      hang_holes o collapse height x₀ y (omega (arith, h, is.span_is)) ∙ ap (punch x₀) (through_none o collapse height y (found y is)) in
+      subst (λ (z : List Hole). Punches out line a segs z out' r) (sym e)
+      (on_pieces out mid out' line m r a segs x x₀ ps small near (omega arith) (spaces_formed y.width, tt) g
+      (λ st l held. rw (ea, is.width_is, consume_spaces l a seat.width) (spaces st l held)))
 
   -- The first line of those that are left.
-  pub seat_there : (letter start next : ℕ) → p < b.end → field_at p (drop p s) ≡ At letter start next → PushesThere out line a segs letter (part start next s) to x out' r
-      → PushesSeat out line a segs s at end w to collapse height x out' r
-  unfolding readable_lines all
-  seat_there letter start next h e there y seat o ea x₀ near =
-      let c = column_of collapse y in
-      let f = first_line s p b.end letter start next (drop height c.lines) h e (from_there s at end w to collapse height b p fb sk y seat) in
-      let ok : readable_lines (f.one ∷ f.more) ≡ true = ap readable_lines (sym f.are) ∙ readable_there s at end w to collapse height b p fb sk y seat in
-      let ok-one : readable_line f.one ≡ true = and_left (readable_line f.one) (all readable_line f.more) ok in
-      let is : seat_through o collapse height y ≡ into_tagged_line (filled o to f.one) =
-      ap (through_of o c) f.are ∙ ap (λ (n : ℕ). into_tagged_line (filled o n f.one)) (same_to s at end w to collapse height b p fb sk y ∙ seat.to_is) in
-      subst (λ (z : List Piece). Punches out line a segs (punch x₀ z) out' r) (sym is) (there o ea f.one f.reads ok-one x₀ near)
-
-  pub seat_broken : p < b.end → field_at p (drop p s) ≡ Broken → PushesSeat out line a segs s at end w to collapse height x out' r
-  seat_broken h e y seat o ea x₀ near =
-      absurd (line_broken s p b.end (drop height (column_of collapse y).lines) h (from_there s at end w to collapse height b p fb sk y seat) e)
-
-  pub seat_ended : p < b.end → field_at p (drop p s) ≡ End → PushesSeat out line a segs s at end w to collapse height x out' r
-  seat_ended h e y seat o ea x₀ near =
-      absurd (line_end_lem s p b.end (drop height (column_of collapse y).lines) h (from_there s at end w to collapse height b p fb sk y seat) e)
-
--- ---- `push_one`
-
-pub one_none : (cells sheet : List ℕ) (seat : Seat) (out : List ℕ) (line : Line) (a : ℕ) (segs : List ℕ) (collapse : Bool) (height x : ℕ) → seat.span < 2
-    → PushesOne out line a segs cells sheet seat collapse height x out line
-one_none cells sheet seat out line a segs collapse height x h o ea y i w x₀ near =
-    on_none out line a segs (column_holes o height x₀ (column_of collapse y)) (no_holes o collapse height x₀ y (omega (arith, h, i.span_is)))
-
-pub one_on : (cells sheet : List ℕ) (seat : Seat) (t : Bool) (out out' : List ℕ) (line r : Line) (a : ℕ) (segs : List ℕ) (collapse : Bool) (height x : ℕ) → seat.hung ≡ t → 2 ≤ seat.span
-    → PushesSeat out line a segs (source cells sheet t) seat.at seat.end seat.width seat.to collapse height x out' r
-    → PushesOne out line a segs cells sheet seat collapse height x out' r
-one_on cells sheet seat t out out' line r a segs collapse height x e h push o ea y i w x₀ near =
-    let k : 1 < y.span = omega (arith, h, i.span_is) in
-    subst (λ (z : List Hole). Punches out line a segs z out' r) (sym (hang_holes o collapse height x₀ y k)) (push y (seat_at cells sheet seat t y e i w k) o ea x₀ near)
+  pub seat_there : (f : Field) → 2 ≤ seat.span → FindsThrough seat collapse height (Some (Ok f)) → PushesThere out line a segs (whole_of f) seat.to x out' r
+      → PushesSeat out line a segs seat collapse height x out' r
+  seat_there f h found there o ea y is w x₀ near =
+      let t = found y is in
+      let e : column_holes o height x₀ (column_of collapse y) ≡ punch x₀ (into_tagged_line (filled o seat.to t.one)) =
+      hang_holes o collapse height x₀ y (omega (arith, h, is.span_is)) ∙ ap (punch x₀) (through_line o collapse height y t.one t.more t.are)
+      ∙ ap (λ (n : ℕ). punch x₀ (into_tagged_line (filled o n t.one))) is.to_is in
+      subst (λ (z : List Hole). Punches out line a segs z out' r) (sym e) (there o ea t.one t.reads t.readable x₀ near)
 
 -- ---- the walk
 
-module _ (out₀ : List ℕ) (p : Lines) (a : ℕ) (segs cells sheet : List ℕ) (first : Slots) (collapse : Bool) (height : ℕ) where
-  -- the seats ahead, and the line so far
-  pub record TextAhead (o : RenderOptions) (out : List ℕ) (line : Line) (st : Slots) (x : ℕ) (all_of : List Piece) (total : ℕ) : Type 0 where
+module _ (out₀ : List ℕ) (line₀ : Line) (a : ℕ) (segs : List ℕ) (first : Seats) (collapse : Bool) (height : ℕ) where
+  -- the seats that are left, and the line so far
+  pub record TextAhead (o : RenderOptions) (out : List ℕ) (line : Line) (st : Seats) (x : ℕ) (all_of : List Piece) (total : ℕ) : Type 0 where
     pub more : List Slot
     pub place : ℕ
     pub pieces : List Piece
-    pub goes : SlotsLeft cells sheet st more total
+    pub goes : SeatsLeft st more total
     pub wide : Every WideSeat more
     pub near : Near x place
     pub fits : any_past (length segs) (holes_of o height place (map (column_of collapse) more)) ≡ false
     pub held : Held out₀ pieces out line
     pub are : into_tagged_from a segs pieces line.cols (holes_of o height place (map (column_of collapse) more)) ≡ all_of
 
-  -- of all seats that were ahead at first
-  pub record TextLaid (out : List ℕ) (line : Line) (st : Slots) (x : ℕ) : Type 0 where
+  -- the same of all seats that were left at first
+  abbrev pub Ahead : List ℕ → Line → Seats → ℕ → Type 0
+  Ahead out line st x =
+      (o : RenderOptions) → o.annotation ≡ a → (xs : List Slot) (total : ℕ) → SeatsLeft first xs total → Every WideSeat xs
+      → any_past (length segs) (holes_of o height 0 (map (column_of collapse) xs)) ≡ false
+      → TextAhead o out line st x (border_into_tagged_line a segs (holes_of o height 0 (map (column_of collapse) xs))) total
+
+  -- a line that is not too long
+  pub record TextLaid (out : List ℕ) (line : Line) (st : Seats) (x : ℕ) : Type 0 where
+    pub low : x < 8589934592
     pub size : length out ≡ length out₀
-    pub begun : LineBegun p line 2500000
-    pub low : SlotsIn cells sheet st
-    pub x_low : x < 8589934592
-    pub same : (o : RenderOptions) → o.annotation ≡ a → (xs : List Slot) (total : ℕ) → SlotsLeft cells sheet first xs total → Every WideSeat xs
-        → any_past (length segs) (holes_of o height 0 (map (column_of collapse) xs)) ≡ false
-        → TextAhead o out line st x (border_into_tagged_line a segs (holes_of o height 0 (map (column_of collapse) xs))) total
+    pub base : line.base ≡ line₀.base
+    pub on : line.base ≤ line.at
+    pub piece : line.piece ≤ line.at
+    pub short : is_long line ≡ false
+    pub same : Ahead out line st x
 
   -- None at first.
-  pub text_start : (line : Line) → line ≡ new_line p.at → SlotsIn cells sheet first → TextLaid out₀ line first 0
+  pub text_start : (place : ℕ) → line₀ ≡ new_line place → TextLaid out₀ line₀ first 0
   unfolding border_into_tagged_line
-  text_start line e i =
-      let k : line.cols ≡ 0 = ap (λ (l : Line). l.cols) e in
+  text_start place e =
+      let k : line₀.cols ≡ 0 = ap (λ (l : Line). l.cols) e in
       record {
+        low = omega arith;
         size = refl;
-        begun = rw e (record { base = refl; on = omega arith; piece = omega arith; at = omega arith; cols = omega arith });
-        low = i;
-        x_low = omega arith;
+        base = refl;
+        on = rw e (omega arith);
+        piece = rw e (omega arith);
+        short = rw e (new_short place);
         same = λ o ea xs total l w f.
             record {
               more = xs;
@@ -360,42 +332,23 @@ module _ (out₀ : List ℕ) (p : Lines) (a : ℕ) (segs cells sheet : List ℕ)
               wide = w;
               near = inl refl;
               fits = f;
-              held = rw e (held_new out₀ p.at);
+              held = rw e (held_new out₀ place);
               are = ap (λ (n : ℕ). into_tagged_from a segs [] n (holes_of o height 0 (map (column_of collapse) xs))) k;
             };
       }
+    where
+      new_short : (place : ℕ) → is_long (new_line place) ≡ false
+      new_short place = le-ltb 65535 (place + 3 - (place + 3)) (omega arith)
 
-  module _ (out : List ℕ) (line : Line) (st : Slots) (x : ℕ) (w : TextLaid out line st x) where
-    -- Room for a seat, and for the last segments.
-    pub text_room : p.at < 2 ^ 61 → Within line hole_most
-    text_room b = record { base = w.begun.on; piece = w.begun.piece; room = omega (arith, w.begun.at, b); cols = omega (arith, w.begun.cols) }
-
-    pub text_last : p.at < 2 ^ 61 → Within line segments_most
-    text_last b = record { base = w.begun.on; piece = w.begun.piece; room = omega (arith, w.begun.at, b); cols = omega (arith, w.begun.cols) }
-
-    -- One seat more.
-    pub text_on : (out' : List ℕ) (r : Line) (seat : Seat) (rest_of : Slots) (x' : ℕ) → length out' ≡ length out → is_long line ≡ false → FoundIn cells sheet st seat rest_of
-        → FindsNext cells sheet st (Is seat rest_of) → LineGrown line r hole_most → PushesOne out line a segs cells sheet seat collapse height x out' r
-        → x' < 8589934592 → Advances x (seat.width + 1) x' → TextLaid out' r rest_of x'
-    text_on out' r seat rest_of x' size short found finds g push low adv =
-        record {
-          size = size ∙ w.size;
-          begun =
-              record {
-                base = g.base ∙ w.begun.base;
-                on = omega (arith, g.base, g.on, w.begun.on);
-                piece = g.piece;
-                at = omega (arith, g.at, w.begun.base, w.begun.on, (short_line line short).1);
-                cols = omega (arith, g.cols, (short_line line short).0);
-              };
-          low = found.rest_in;
-          x_low = low;
-          same = λ o ea xs total l wide f. go o ea _ total (w.same o ea xs total l wide f);
-        }
+  module _ (out : List ℕ) (line : Line) (st : Seats) (x : ℕ) (w : TextLaid out line st x) where
+    -- One seat more is on the line.
+    pub text_ahead : (out' : List ℕ) (r : Line) (seat : Seat) (next_st : Seats) (x' : ℕ) → NextSeat st (Some seat) next_st → PushesSeat out line a segs seat collapse height x out' r
+        → Advances x (seat.width + 1) x' → Ahead out' r next_st x'
+    text_ahead out' r seat next_st x' next push adv o ea xs total l wide f = go (w.same o ea xs total l wide f)
       where
-        go : (o : RenderOptions) → o.annotation ≡ a → (all_of : List Piece) (total : ℕ) → TextAhead o out line st x all_of total → TextAhead o out' r rest_of x' all_of total
-        go o ea all_of total h =
-            let y = finds h.more total h.goes in
+        go : {all_of : List Piece} → TextAhead o out line st x all_of total → TextAhead o out' r next_st x' all_of total
+        go h =
+            let y = next h.more total h.goes in
             let c = column_of collapse y.one in
             let hs = column_holes o height h.place c in
             let ks = holes_of o height (h.place + seat.width + 1) (map (column_of collapse) y.more) in
@@ -418,24 +371,20 @@ module _ (out₀ : List ℕ) (p : Lines) (a : ℕ) (segs cells sheet : List ℕ)
               are = sym (t.goes ks) ∙ ap (into_tagged_from a segs h.pieces line.cols) (sym split) ∙ h.are;
             }
 
-    -- The line is too long.
-    pub text_long : is_long line ≡ true → PushesHoles out₀ p a segs cells sheet first collapse height out line
-    text_long e o ea xs total l v f =
-        let h = w.same o ea xs total l v f in
-        record {
-          pieces = h.pieces;
-          held = h.held;
-          grows = omega (arith, grow_tagged a segs h.pieces line.cols (holes_of o height h.place (map (column_of collapse) h.more)), ap size_of h.are);
-          whole = λ k. absurd (clash e k);
-        }
+    -- It is not too long.
+    pub text_on : (out' : List ℕ) (r : Line) (next_st : Seats) (x' : ℕ) → length out' ≡ length out → LineGrown line r hole_most → is_long r ≡ false → x' < 8589934592
+        → Ahead out' r next_st x' → TextLaid out' r next_st x'
+    text_on out' r next_st x' size g short low ahead =
+        record { low = low; size = size ∙ w.size; base = g.base ∙ w.base; on = omega (arith, g.base, g.on, w.on); piece = g.piece; short = short; same = ahead }
 
     -- No seat is left: the last segments.
-    pub text_end : (out' : List ℕ) (r : Line) (t : ℕ) → FindsNext cells sheet st (NoMore t) → PushesSegments out line a segs (length segs) out' r
-        → PushesHoles out₀ p a segs cells sheet first collapse height out' r
+    pub text_end : (p : Lines) (row : Row) (out' : List ℕ) (r : Line) (next_st : Seats) → NextSeat st None next_st
+        → ((xs : List Slot) (total : ℕ) → RowIs row xs total → SeatsLeft first xs total) → PushesUpToHole out line a segs (length segs) out' r
+        → PushesHoles out₀ p a segs row collapse height out' r
     unfolding holes_of
-    text_end out' r t finds push o ea xs total l v f =
-        let h = w.same o ea xs total l v f in
-        let none : h.more ≡ [] = (finds h.more total h.goes).0 in
+    text_end p row out' r next_st next begins push o ea xs total l v f =
+        let h = w.same o ea xs total (begins xs total l) v f in
+        let none : h.more ≡ [] = (next h.more total h.goes).0 in
         let is : up_to_hole a segs h.pieces line.cols (length segs) ≡ border_into_tagged_line a segs (holes_of o height 0 (map (column_of collapse) xs)) =
         up_to_end a segs h.pieces line.cols
         ∙ ap (λ (z : List Slot). into_tagged_from a segs h.pieces line.cols (holes_of o height h.place (map (column_of collapse) z))) (sym none) ∙ h.are in
@@ -446,23 +395,17 @@ module _ (out₀ : List ℕ) (p : Lines) (a : ℕ) (segs cells sheet : List ℕ)
           whole = λ _. is;
         }
 
-    pub long_begun : LineBegun p line 8000000
-    long_begun = record { base = w.begun.base; on = w.begun.on; piece = w.begun.piece; at = omega (arith, w.begun.at); cols = omega (arith, w.begun.cols) }
-
-    pub end_begun : (r : Line) → LineGrown line r segments_most → LineBegun p r 8000000
-    end_begun r g =
-        record {
-          base = g.base ∙ w.begun.base;
-          on = omega (arith, g.base, g.on, w.begun.on);
-          piece = g.piece;
-          at = omega (arith, g.at, w.begun.at);
-          cols = omega (arith, g.cols, w.begun.cols);
-        }
-
--- A line that is begun where the lines end.
-pub begun_there : (p : Lines) (l line : Line) → l ≡ new_line p.at → LineBegun (start_of l) line 8000000 → LineBegun p line 8000000
-begun_there p l line e b =
-    record { base = omega (arith, start_at p l e, b.base); on = b.on; piece = b.piece; at = omega (arith, start_at p l e, b.at); cols = b.cols }
+  -- The line is too long.
+  pub text_long : (p : Lines) (row : Row) (out : List ℕ) (line : Line) (st : Seats) (x : ℕ) → is_long line ≡ true → Ahead out line st x
+      → ((xs : List Slot) (total : ℕ) → RowIs row xs total → SeatsLeft first xs total) → PushesHoles out₀ p a segs row collapse height out line
+  text_long p row out line st x e ahead begins o ea xs total l v f =
+      let h = ahead o ea xs total (begins xs total l) v f in
+      record {
+        pieces = h.pieces;
+        held = h.held;
+        grows = omega (arith, grow_tagged a segs h.pieces line.cols (holes_of o height h.place (map (column_of collapse) h.more)), ap size_of h.are);
+        whole = λ k. absurd (clash e k);
+      }
 
 -- ---- a text that a field holds
 

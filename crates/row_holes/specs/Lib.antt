@@ -1,3 +1,4 @@
+pub mod Filled
 pub mod Pieces
 pub mod Through
 pub mod Row

@@ -2,7 +2,7 @@
 -- Assumes nothing: these are definitions.
 use Rattle.std.specs.Prelude.{◌≡◌, Bool, true, false, List, ◌++◌, map, ℕ, ◌≤◌, length}
 use Rattle.std.proofs.Math.Option.{some}
-use Rattle.fields.specs.Field.{whole}
+use Rattle.fields.specs.Field.{Raw}
 use Rattle.fields.specs.Sheet.{Piece, pieces_bytes}
 use Rattle.fields.proofs.Back.{Every}
 use Rattle.rows.specs.declared.RenderOptions.{RenderOptions}
@@ -12,42 +12,37 @@ use Rattle.borders.specs.BorderHoriz.{up_to_hole, into_tagged_from, border_into_
 use Rattle.rows.specs.SubRenderer.{into_tagged_line, filled}
 use Rattle.rows.specs.Columns.{Slot, column_of, punch, column_holes, holes_of, any_past}
 use Rattle.slots.specs.declared.seat.Seat.{Seat}
-use Rattle.slots.specs.declared.seat.Slots.{Slots}
-use Rattle.slots.specs.Seats.{SeatIs, SlotsLeft}
+use Rattle.slots.specs.Seat.{SeatIs}
+use Rattle.seats.specs.declared.row.Row.{Row}
+use Rattle.seats.specs.Row.{RowIs}
 use Rattle.tagged_line.specs.Held.{Held}
 use Rattle.tagged_line.specs.declared.line.Line.{Line}
 use Rattle.extend_lines.specs.declared.line.Lines.{Lines}
 use Rattle.long_borders.specs.Keeps.{Near}
-use Rattle.row_lines.specs.Seat.{AddsCellText}
 use Rattle.row_lines.specs.Row.{is_long}
-use Rattle.row_holes.specs.Through.{SeatAt, seat_through}
 use Rattle.row_holes.specs.Row.{WideSeat}
 
 -- ---- numbers
 
 -- the most bytes and the most columns that the segments of a border add to a line
 abbrev pub segments_most : ℕ
-segments_most = 262160
+segments_most = 524296
 
 -- the most that a seat adds, with the segments before it
 abbrev pub hole_most : ℕ
-hole_most = 2170000
+hole_most = 2424296
 
 -- ---- segments and lines
 
--- `push_segments`: those from where the text stands up to a place within the border
-abbrev pub PushesSegments : List ℕ → Line → ℕ → List ℕ → ℕ → List ℕ → Line → Type 0
-PushesSegments out p a segs x out' r =
+-- `push_up_to_hole`: the segments from where the text stands up to a place within the border
+abbrev pub PushesUpToHole : List ℕ → Line → ℕ → List ℕ → ℕ → List ℕ → Line → Type 0
+PushesUpToHole out p a segs x out' r =
     x ≤ length segs → (st : List ℕ) (l : List Piece) → Held st l out p → Held st (up_to_hole a segs l p.cols x) out' r
 
--- `push_text`
-abbrev pub PushesText : List ℕ → Line → ℕ → List ℕ → ℕ → List ℕ → Line → Type 0
-PushesText out p a content to out' r = (o : RenderOptions) → o.annotation ≡ a → AddsCellText out p o content to out' r
-
 -- `push_line`: of the line that a field is, filled to a width
-abbrev pub PushesLine : List ℕ → Line → ℕ → ℕ → List ℕ → ℕ → List ℕ → Line → Type 0
-PushesLine out p a letter content to out' r =
-    (o : RenderOptions) → o.annotation ≡ a → (g : RenderLine) → read_line (whole letter content) ≡ some g → readable_line g ≡ true
+abbrev pub PushesLine : List ℕ → Line → ℕ → Raw → ℕ → List ℕ → Line → Type 0
+PushesLine out p a field to out' r =
+    (o : RenderOptions) → o.annotation ≡ a → (g : RenderLine) → read_line field ≡ some g → readable_line g ≡ true
     → (st : List ℕ) (l : List Piece) → Held st l out p → Held st (consume l (into_tagged_line (filled o to g))) out' r
 
 -- ---- holes
@@ -64,21 +59,15 @@ Punches out p a segs hs out' r =
     any_past (length segs) hs ≡ false → (st : List ℕ) (l : List Piece) → Held st l out p → HolesOn a segs hs st l p.cols out' r
 
 -- `push_there`
-abbrev pub PushesThere : List ℕ → Line → ℕ → List ℕ → ℕ → List ℕ → ℕ → ℕ → List ℕ → Line → Type 0
-PushesThere out p a segs letter content to x out' r =
-    (o : RenderOptions) → o.annotation ≡ a → (g : RenderLine) → read_line (whole letter content) ≡ some g → readable_line g ≡ true
+abbrev pub PushesThere : List ℕ → Line → ℕ → List ℕ → Raw → ℕ → ℕ → List ℕ → Line → Type 0
+PushesThere out p a segs field to x out' r =
+    (o : RenderOptions) → o.annotation ≡ a → (g : RenderLine) → read_line field ≡ some g → readable_line g ≡ true
     → (x₀ : ℕ) → Near x x₀ → Punches out p a segs (punch x₀ (into_tagged_line (filled o to g))) out' r
 
 -- `push_seat`
-abbrev pub PushesSeat : List ℕ → Line → ℕ → List ℕ → List ℕ → ℕ → ℕ → ℕ → ℕ → Bool → ℕ → ℕ → List ℕ → Line → Type 0
-PushesSeat out p a segs s at end width to collapse height x out' r =
-    (y : Slot) → SeatAt s at end width to y → (o : RenderOptions) → o.annotation ≡ a → (x₀ : ℕ) → Near x x₀
-    → Punches out p a segs (punch x₀ (seat_through o collapse height y)) out' r
-
--- `push_one`
-abbrev pub PushesOne : List ℕ → Line → ℕ → List ℕ → List ℕ → List ℕ → Seat → Bool → ℕ → ℕ → List ℕ → Line → Type 0
-PushesOne out p a segs cells sheet seat collapse height x out' r =
-    (o : RenderOptions) → o.annotation ≡ a → (y : Slot) → SeatIs cells sheet seat y → WideSeat y → (x₀ : ℕ) → Near x x₀
+abbrev pub PushesSeat : List ℕ → Line → ℕ → List ℕ → Seat → Bool → ℕ → ℕ → List ℕ → Line → Type 0
+PushesSeat out p a segs seat collapse height x out' r =
+    (o : RenderOptions) → o.annotation ≡ a → (y : Slot) → SeatIs seat y → WideSeat y → (x₀ : ℕ) → Near x x₀
     → Punches out p a segs (column_holes o height x₀ (column_of collapse y)) out' r
 
 -- ---- the border
@@ -91,8 +80,8 @@ pub record HolesPushed (out : List ℕ) (a : ℕ) (segs : List ℕ) (hs : List H
   pub whole : is_long r ≡ false → pieces ≡ border_into_tagged_line a segs hs
 
 -- `push_holes`
-abbrev pub PushesHoles : List ℕ → Lines → ℕ → List ℕ → List ℕ → List ℕ → Slots → Bool → ℕ → List ℕ → Line → Type 0
-PushesHoles out p a segs cells sheet first collapse height out' r =
-    (o : RenderOptions) → o.annotation ≡ a → (xs : List Slot) (total : ℕ) → SlotsLeft cells sheet first xs total → Every WideSeat xs
+abbrev pub PushesHoles : List ℕ → Lines → ℕ → List ℕ → Row → Bool → ℕ → List ℕ → Line → Type 0
+PushesHoles out p a segs row collapse height out' r =
+    (o : RenderOptions) → o.annotation ≡ a → (xs : List Slot) (total : ℕ) → RowIs row xs total → Every WideSeat xs
     → any_past (length segs) (holes_of o height 0 (map (column_of collapse) xs)) ≡ false
     → HolesPushed out a segs (holes_of o height 0 (map (column_of collapse) xs)) out' r

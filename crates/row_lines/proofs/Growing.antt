@@ -12,6 +12,7 @@ use borrow.Author.Tests.{ltb-true, ltb-false}
 use Rattle.characters.specs.Utf8.{Place, fresh, inside, Step, bad, on, ends, step_byte, follow, at_end, chars_from, chars}
 use Rattle.characters.specs.Columns.{str_width}
 use Rattle.characters.proofs.Tables.{cols_le_two}
+use Rattle.characters.proofs.Tests.{or_left, or_right}
 use Rattle.fields.specs.Sheet.{Piece, str, fragment}
 use Rattle.fields.specs.Widths.{width_or, text_width, width}
 use Rattle.rows.specs.declared.RenderOptions.{RenderOptions}
@@ -19,11 +20,16 @@ use Rattle.fields.specs.TaggedLine.{consume}
 use Rattle.rows.specs.SubRenderer.{edge}
 use Rattle.fields.specs.Spans.{RenderLine, text, border}
 use Rattle.rows.specs.Columns.{Column, add_column}
-use Rattle.extend_lines.proofs.Growing.{or_first, or_second, size_of, size_cons, size_str, grow_str, grow_consume}
+use Rattle.extend_lines.proofs.Growing.{size_of, size_cons, size_str, grow_str, grow_consume}
 use Rattle.row_lines.specs.Seat.{opened}
 use Rattle.tagged_line.specs.Held.{Held}
 use Rattle.tagged_line.specs.declared.line.Line.{Line}
-use Rattle.row_lines.specs.Row.{is_long, columns_from}
+use Rattle.row_lines.specs.Row.{is_long}
+
+-- what columns give to a line, the first of which is the k-th of the row
+unfoldable pub columns_from : RenderOptions → ℕ → List Piece → List Column → List Piece
+columns_from s k l [] = l
+columns_from s k l (c ∷ cs) = columns_from s (suc k) (add_column s (opened s k l) c c.lines) cs
 
 grow_column : (s : RenderOptions) (l : List Piece) (c : Column) (ls : List RenderLine) → size_of l ≤ size_of (add_column s l c ls)
 grow_column s l c [] = grow_str l _ _
@@ -97,4 +103,4 @@ long_size st l out p h e = go (ltb 131070 p.cols) refl
 
 -- One that is not is short in both.
 pub short_line : (p : Line) → is_long p ≡ false → (p.cols ≤ 131070) × (p.at - p.base ≤ 65535)
-short_line p e = (ltb-false 131070 p.cols (or_first (ltb 131070 p.cols) (ltb 65535 (p.at - p.base)) e), ltb-false 65535 (p.at - p.base) (or_second (ltb 131070 p.cols) (ltb 65535 (p.at - p.base)) e))
+short_line p e = (ltb-false 131070 p.cols (or_left (ltb 131070 p.cols) (ltb 65535 (p.at - p.base)) e), ltb-false 65535 (p.at - p.base) (or_right (ltb 131070 p.cols) (ltb 65535 (p.at - p.base)) e))

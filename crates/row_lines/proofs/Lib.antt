@@ -1,8 +1,6 @@
+pub mod LeftLaws
 pub mod SeatLaws
-pub mod PlaceLaws
 pub mod Growing
-pub mod RowLaws
-pub mod StartLaws
 pub mod MarkLaws
-pub mod RestLaws
+pub mod RowLaws
 pub mod FullLaws

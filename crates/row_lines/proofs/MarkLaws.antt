@@ -1,69 +1,176 @@
 -- Laws of the marks.
 -- Assumes nothing.
-use mathlib.Core.Path.{◌≡◌, refl, sym, ap₂, subst, ◌∙◌}
-use mathlib.Core.Bool.{Bool, true, false}
-use mathlib.Core.List.{List}
-use Prim.Native.Nat.{ℕ, ◌+◌, ◌*◌, ◌/◌, ◌%◌, ◌<◌}
+use mathlib.Core.Path.{◌≡◌, refl, sym, ap, subst, ◌∙◌}
+use mathlib.Core.Bool.{Bool}
+use mathlib.Core.List.{List, [], ◌∷◌, ◌++◌, append_assoc, append-nil}
+use mathlib.Core.Logic.{⊎_elim}
+use Prim.Native.Nat.{ℕ, suc, min, ◌+◌, ◌-◌, ◌/◌, ◌≤◌, ◌<◌}
 use native.Mathlib.Omega.{arith}
-use lib.ListN.{length, get_or, set, length-set}
-use lib.Seq.{get_or-set_same, get_or-set_other}
-use Rattle.rows.specs.Columns.{column_of}
-use Rattle.bodies.specs.Walk.{PassesTop}
-use Rattle.slots.specs.declared.seat.Slots.{Slots}
-use Rattle.row_lines.specs.Place.{down, FindsPlace}
-use Rattle.row_lines.specs.Mark.{StandsAt, mark_at, FindsFirst, FindsCursor, CursorSet, StartsAhead}
-use Rattle.row_lines.proofs.StartLaws.{readable_top}
+use lib.ListN.{length, drop, length-append, length-drop}
+use lib.Seq.{drop-drop}
+use Rattle.std.proofs.Math.Nat.{min-eq_left, min-eq_right}
+use Rattle.characters.proofs.Tests.{lt_or_le}
+use Rattle.fields.specs.Field.{raws, read_all}
+use Rattle.fields.specs.Spans.{read_line, lines_bytes}
+use Rattle.rows.proofs.Reading.{some_of, Bytes}
+use Rattle.rows.proofs.Same.{lines_same}
+use Rattle.rows.specs.Columns.{Slot}
+use Rattle.slots.specs.declared.seat.Seat.{Seat}
+use Rattle.slots.specs.Seat.{SeatIs}
+use Rattle.seats.specs.declared.row.Row.{Row}
+use Rattle.seats.specs.declared.row.Seats.{Seats}
+use Rattle.seats.specs.Row.{RowIs, SeatsLeft, FirstSeat}
+use Rattle.row_lines.specs.Left.{last, LinesOf, StandsAt, FindsFirst}
+use Rattle.row_lines.specs.Mark.{mark_at, Marked, EndsAt, MarkSet, AllMarked, StartsMarks}
 
--- Without collapsing the first line stands first.
-pub first_plain : (bytes : List ℕ) (collapse : Bool) → collapse ≡ false → FindsFirst bytes collapse 0
-unfolding down column_of
-first_plain bytes false e x l =
-    record { ms = x.lines; lines_at = l.lines_at; readable = l.readable; width_is = refl; to_is = refl; are = (refl, refl) }
-first_plain bytes true e x l = absurd (let z : ◌≡◌ {A = ℕ} 0 1 = cc in omega arith)
+-- ---- one mark
 
--- With it, it stands behind a first border.
-pub first_off : (bytes : List ℕ) (collapse : Bool) (r : ℕ) → collapse ≡ true → PassesTop bytes 0 (length bytes) r → FindsFirst bytes collapse r
-unfolding down column_of
-first_off bytes true r e f x l =
+-- The lines of a seat, by their bytes.
+pub lines_of : (seat : Seat) (x : Slot) → Bytes seat.lines.now → SeatIs seat x → LinesOf seat.lines.now x
+lines_of seat x known is =
     record {
-      ms = _;
-      lines_at = (f x.lines l.lines_at).goes;
-      readable = readable_top x.lines l.readable;
-      width_is = refl;
-      to_is = refl;
-      are = (refl, refl);
+      same = sym (some_of (λ ls. lines_bytes ls ≡ seat.lines.now) (read_all read_line (raws seat.lines.now)) x.lines is.lines_in.reads (lines_same seat.lines.now known));
+      lines_in = is.lines_in;
+      readable = is.readable;
     }
-first_off bytes false r e f x l = absurd (let z : ◌≡◌ {A = ℕ} 0 1 = cc in omega arith)
 
--- A mark is read.
-pub cursor_mark : (marks : List ℕ) (k : ℕ) (bytes : List ℕ) (collapse : Bool) (i r : ℕ) → k < length marks / 2 → r ≡ mark_at marks k → FindsCursor marks k bytes collapse i r
-cursor_mark marks k bytes collapse i r h e x l m =
-    subst (λ (z : ℕ). StandsAt bytes z collapse i x) (sym e) (subst (λ (b : List ℕ). StandsAt b (mark_at marks k) collapse i x) (sym l.same) (m h))
+-- An end of an end.
+pub last_of_last : (bytes left r : List ℕ) → left ≡ last (length left) bytes → r ≡ last (length r) left → r ≡ last (length r) bytes
+last_of_last bytes left r e f =
+    let n : length left ≡ length bytes - (length bytes - length left) = ap length e ∙ length-drop (length bytes - length left) bytes in
+    let m : length r ≡ length left - (length left - length r) = ap length f ∙ length-drop (length left - length r) left in
+    f ∙ ap (λ (z : List ℕ). drop (length left - length r) z) e ∙ drop-drop (length left - length r) (length bytes - length left) bytes
+    ∙ ap (λ (k : ℕ). drop k bytes) (omega (arith, n, m))
 
--- Or the place is found anew.
-pub cursor_found : (marks : List ℕ) (k : ℕ) (bytes : List ℕ) (collapse : Bool) (i first r : ℕ) → FindsFirst bytes collapse first
-    → FindsPlace bytes first (length bytes) collapse i r → FindsCursor marks k bytes collapse i r
-unfolding down
-cursor_found marks k bytes collapse i first r f g x l m = g x.width x.to (column_of collapse x) (f x l)
+-- A mark that is set.
+pub mark_put : (marks : List ℕ) (k : ℕ) (bytes left marks' : List ℕ) (collapse : Bool) (i : ℕ) (x : Slot) → MarkSet marks k (length left) marks' → LinesOf bytes x
+    → EndsAt marks k bytes left → StandsAt left collapse i x → Marked marks' k collapse i x
+mark_put marks k bytes left marks' collapse i x set l e is h =
+    let low : k < length marks / 2 = subst (λ (z : ℕ). k < z / 2) set.size h in
+    subst (λ (z : List ℕ). StandsAt (last (mark_at marks' k) z) collapse i x) l.same
+    (subst (λ (n : ℕ). StandsAt (last n bytes) collapse i x) (sym (set.put low)) (subst (λ (z : List ℕ). StandsAt z collapse i x) (e low) is))
 
--- No seat is ahead.
-pub ahead_none : (cells sheet : List ℕ) (more : Bool) (first : Slots) (collapse : Bool) (marks : List ℕ) → more ≡ false → StartsAhead cells sheet more first collapse marks
-ahead_none cells sheet more first collapse marks e x = absurd (let z : ◌≡◌ {A = ℕ} 0 1 = cc in omega arith)
+-- ---- the marks of some seats
 
--- A mark is set.
-pub set_mark : (marks : List ℕ) (k at r : ℕ) → k < length marks / 2 → at < 65536 → r ≡ k + 1
-    → CursorSet marks k at (set (set marks (2 * k) (at / 256)) (2 * k + 1) (at % 256)) r
-set_mark marks k at r h low e =
+-- a mark that stays
+mark_stays : (marks marks' : List ℕ) (j : ℕ) (collapse : Bool) (i : ℕ) (x : Slot) → length marks' ≡ length marks → mark_at marks' j ≡ mark_at marks j
+    → Marked marks j collapse i x → Marked marks' j collapse i x
+mark_stays marks marks' j collapse i x size e m h =
+    subst (λ (n : ℕ). StandsAt (last n (lines_bytes x.lines)) collapse i x) (sym e) (m (subst (λ (z : ℕ). j < z / 2) size h))
+
+-- Marks of other seats stay.
+pub marks_stay : (marks marks' : List ℕ) (j : ℕ) (collapse : Bool) (i : ℕ) (xs : List Slot) → length marks' ≡ length marks
+    → ((n : ℕ) → j ≤ n → n < j + length xs → n < length marks / 2 → mark_at marks' n ≡ mark_at marks n) → AllMarked marks j collapse i xs → AllMarked marks' j collapse i xs
+marks_stay marks marks' j collapse i [] size f m = tt
+marks_stay marks marks' j collapse i (x ∷ xs) size f m = (
+  λ h. mark_stays marks marks' j collapse i x size (f j (omega arith) (omega arith) (subst (λ (z : ℕ). j < z / 2) size h)) m.0 h,
+  marks_stay marks marks' (suc j) collapse i xs size (λ n low high. f n (omega (arith, low)) (omega (arith, high))) m.1,
+)
+
+-- One more.
+pub marks_more : (marks : List ℕ) (j : ℕ) (collapse : Bool) (i : ℕ) (ys : List Slot) (x : Slot) → AllMarked marks j collapse i ys → Marked marks (j + length ys) collapse i x
+    → AllMarked marks j collapse i (ys ++ (x ∷ []))
+marks_more marks j collapse i [] x m f = (subst (λ (n : ℕ). Marked marks n collapse i x) (omega arith) f, tt)
+marks_more marks j collapse i (y ∷ ys) x m f =
+    (m.0, marks_more marks (suc j) collapse i ys x m.1 (subst (λ (n : ℕ). Marked marks n collapse i x) (omega arith) f))
+
+-- ---- the number of a seat
+
+-- k is the number of seats before, or no mark has a number so high
+pub record Numbered (m k n : ℕ) : Type 0 where
+  pub here : k < m → k ≡ n
+  pub past : m ≤ k → m ≤ n
+
+-- None.
+pub numbered_none : (m : ℕ) → Numbered m 0 0
+numbered_none m = record { here = λ h. refl; past = λ h. h }
+
+-- r is the number behind k, below some height
+pub record Behind (m k r : ℕ) : Type 0 where
+  pub some : 0 < r
+  pub low : k < m → r ≡ k + 1
+  pub high : m ≤ k → m ≤ r
+
+-- One more, as far as a machine counts.
+pub one_behind : (m k r : ℕ) → r ≡ min (k + 1) 18446744073709551615 → m < 18446744073709551615 → Behind m k r
+one_behind m k r e h =
+    ⊎_elim (λ (v : k < 18446744073709551615).
+    let is : r ≡ k + 1 = e ∙ min-eq_left (omega (arith, v)) in record { some = omega (arith, is); low = λ _. is; high = λ x. omega (arith, is, x) })
+    (λ (v : 18446744073709551615 ≤ k).
+    let is : r ≡ 18446744073709551615 = e ∙ min-eq_right (omega (arith, v)) in
+    record { some = omega (arith, is); low = λ x. absurd (omega (arith, x, v, h)); high = λ x. omega (arith, is, h) })
+    (lt_or_le k 18446744073709551615)
+
+pub numbered_on : (m k n r : ℕ) → Numbered m k n → Behind m k r → Numbered m r (n + 1)
+numbered_on m k n r w b =
     record {
-      size = length-set (set marks (2 * k) (at / 256)) (2 * k + 1) (at % 256) ∙ length-set marks (2 * k) (at / 256);
-      put = λ l m.
-          let one = get_or-set_other (set marks (2 * k) (at / 256)) (2 * k + 1) (2 * k) (at % 256) 0 (λ x. omega arith) ∙ get_or-set_same marks (2 * k) (at / 256) 0 (omega arith) in
-          let other = get_or-set_same (set marks (2 * k) (at / 256)) (2 * k + 1) (at % 256) 0 (omega (arith, length-set marks (2 * k) (at / 256))) in
-          omega (arith, one, other);
-      others = λ j d. ap₂ (λ (x y : ℕ). x * 256 + y) (apart (2 * j) (λ x. omega arith) (λ x. omega arith)) (apart (2 * j + 1) (λ x. omega arith) (λ x. omega arith));
-      next = λ l. e;
-      stays = λ l. absurd (omega arith);
+      here = λ h. ⊎_elim (λ (v : k < m). b.low v ∙ ap (λ (z : ℕ). z + 1) (w.here v)) (λ (v : m ≤ k). absurd (omega (arith, b.high v, h))) (lt_or_le k m);
+      past = λ h. ⊎_elim (λ (v : k < m). omega (arith, h, b.low v, w.here v)) (λ (v : m ≤ k). omega (arith, w.past v)) (lt_or_le k m);
     }
-  where
-    apart : (n : ℕ) → (n ≡ 2 * k → ⊥) → (n ≡ 2 * k + 1 → ⊥) → get_or (set (set marks (2 * k) (at / 256)) (2 * k + 1) (at % 256)) n 0 ≡ get_or marks n 0
-    apart n x y = get_or-set_other (set marks (2 * k) (at / 256)) (2 * k + 1) n (at % 256) 0 y ∙ get_or-set_other marks (2 * k) n (at / 256) 0 x
+
+-- A mark of a seat, by the number of seats before it.
+pub number_mark : (marks : List ℕ) (k n : ℕ) (collapse : Bool) (i : ℕ) (x : Slot) → Numbered (length marks / 2) k n → Marked marks k collapse i x
+    → Marked marks n collapse i x
+number_mark marks k n collapse i x w f h =
+    ⊎_elim (λ (v : k < length marks / 2). subst (λ (j : ℕ). Marked marks j collapse i x) (w.here v) f h)
+    (λ (v : length marks / 2 ≤ k). absurd (omega (arith, w.past v, h))) (lt_or_le k (length marks / 2))
+
+-- and back
+pub mark_number : (marks : List ℕ) (k n : ℕ) (collapse : Bool) (i : ℕ) (x : Slot) → Numbered (length marks / 2) k n → Marked marks n collapse i x
+    → Marked marks k collapse i x
+mark_number marks k n collapse i x w f h = subst (λ (j : ℕ). Marked marks j collapse i x) (sym (w.here h)) f h
+
+-- ---- the marks at the first lines
+
+module _ (row : Row) (collapse : Bool) where
+  -- the marks of some seats are set
+  pub record SomeMarked (marks : List ℕ) (it : Seats) (k : ℕ) (xs : List Slot) (total : ℕ) : Type 0 where
+    pub ys : List Slot
+    pub zs : List Slot
+    pub are : xs ≡ ys ++ zs
+    pub ahead : SeatsLeft it zs total
+    pub number : Numbered (length marks / 2) k (length ys)
+    pub gone : AllMarked marks 0 collapse 0 ys
+
+  -- of each list of seats that the row is
+  abbrev pub MarksSet : List ℕ → Seats → ℕ → Type 0
+  MarksSet marks it k = (xs : List Slot) (total : ℕ) → RowIs row xs total → SomeMarked marks it k xs total
+
+  -- None at first.
+  pub marks_start : (marks : List ℕ) (it : Seats) → ((xs : List Slot) (total : ℕ) → RowIs row xs total → SeatsLeft it xs total) → MarksSet marks it 0
+  marks_start marks it f xs total a =
+      record { ys = []; zs = xs; are = refl; ahead = f xs total a; number = numbered_none (length marks / 2); gone = tt }
+
+  module _ (marks : List ℕ) (it : Seats) (k : ℕ) (w : MarksSet marks it k) where
+    -- All of them.
+    pub marks_end : ((xs : List Slot) (total : ℕ) → SeatsLeft it xs total → xs ≡ []) → StartsMarks row collapse marks
+    marks_end f xs total a =
+        let t = w xs total a in
+        let all_of : xs ≡ t.ys = t.are ∙ ap (λ (z : List Slot). t.ys ++ z) (f t.zs total t.ahead) ∙ append-nil t.ys in
+        subst (λ (z : List Slot). AllMarked marks 0 collapse 0 z) (sym all_of) t.gone
+
+    -- One more.
+    pub marks_on : (seat : Seat) (rest : Seats) (left marks' : List ℕ) (r : ℕ) → ((xs : List Slot) (total : ℕ) → SeatsLeft it xs total → FirstSeat seat rest xs total)
+        → Bytes seat.lines.now → FindsFirst seat.lines.now collapse left → left ≡ last (length left) seat.lines.now → MarkSet marks k (length left) marks'
+        → Behind (length marks / 2) k r → MarksSet marks' rest r
+    marks_on seat rest left marks' r next known first ends set b xs total a =
+        let t = w xs total a in
+        let x = next t.zs total t.ahead in
+        let M = length marks / 2 in
+        let same : length marks' / 2 ≡ M = ap (λ (z : ℕ). z / 2) set.size in
+        let l = lines_of seat x.one known x.seat_is in
+        let count : length (t.ys ++ (x.one ∷ [])) ≡ length t.ys + 1 = length-append t.ys (x.one ∷ []) in
+        let number : Numbered (length marks' / 2) k (length t.ys) = subst (λ (m : ℕ). Numbered m k (length t.ys)) (sym same) t.number in
+        let mark : Marked marks' (length t.ys) collapse 0 x.one =
+        number_mark marks' k (length t.ys) collapse 0 x.one number (mark_put marks k seat.lines.now left marks' collapse 0 x.one set l (λ _. ends) (first x.one l)) in
+        let others : AllMarked marks' 0 collapse 0 t.ys =
+        marks_stay marks marks' 0 collapse 0 t.ys set.size (λ n _ h v. set.others n (λ e. omega (arith, h, t.number.here (subst (λ (z : ℕ). z < M) e v), e))) t.gone in
+        record {
+          ys = t.ys ++ (x.one ∷ []);
+          zs = x.more;
+          are = t.are ∙ ap (λ (z : List Slot). t.ys ++ z) x.are ∙ sym (append_assoc t.ys (x.one ∷ []) x.more);
+          ahead = x.goes;
+          number = subst (λ (m : ℕ). Numbered m r (length (t.ys ++ (x.one ∷ [])))) (sym same)
+              (subst (λ (n : ℕ). Numbered M r n) (sym count) (numbered_on M k (length t.ys) r t.number b));
+          gone = marks_more marks' 0 collapse 0 t.ys x.one others (subst (λ (n : ℕ). Marked marks' n collapse 0 x.one) (omega arith) mark);
+        }

@@ -1,46 +1,48 @@
--- Laws of the lines of a row whose seats are kept.
+-- Laws of a line of a row.
 -- Assumes nothing.
 use mathlib.Core.Path.{◌≡◌, refl, sym, ap, subst, ◌∙◌}
-use mathlib.Core.Bool.{Bool, true, false, ◌&&◌, ◌||◌}
-use mathlib.Core.Option.{none}
-use mathlib.Core.List.{List, [], ◌∷◌, ◌++◌, map}
-use mathlib.Core.Logic.{⊎_elim}
-use Prim.Native.Nat.{ℕ, zero, suc, ◌+◌, ◌-◌, ◌^◌, ◌≤◌, ◌<◌}
+use mathlib.Core.Bool.{Bool, true, false}
+use mathlib.Core.List.{List, [], ◌∷◌, ◌++◌, append_assoc, append-nil}
+use Prim.Native.Nat.{ℕ, zero, suc, ◌+◌, ◌/◌, ◌≤◌, ◌<◌}
 use native.Mathlib.Omega.{arith}
-use lib.ListN.{length, drop, get_or, set, length-set, length-map, length-append, get_or-map, drop_of_length-le}
-use lib.Seq.{get_or-set_same, get_or-set_other, drop-cons}
-use Rattle.characters.proofs.Tests.{lt_or_le}
-use Rattle.fields.specs.Field.{all}
-use Rattle.fields.specs.Sheet.{Piece, fragment}
-use Rattle.rows.specs.declared.RenderOptions.{RenderOptions}
+use lib.ListN.{length, length-append}
+use Rattle.characters.proofs.Tests.{clash, or_left, or_right}
+use Rattle.fields.specs.Sheet.{Piece}
 use Rattle.fields.specs.TaggedLine.{push_str}
-use Rattle.rows.specs.SubRenderer.{edge, with_names}
-use Rattle.rows.specs.Named.{named_lines}
-use Rattle.fields.specs.Spans.{RenderLine, text, border}
-use Rattle.rows.specs.Answer.{fits}
-use Rattle.rows.specs.Columns.{slot, Column, column, cell_misfit, add_column, column_line, next_column, line_misfit, lines_misfit, column_lines}
-use Rattle.rows.proofs.Front.{named_row}
-use Rattle.slots.specs.Seats.{source}
-use Rattle.tagged_line.specs.Held.{Within, LineGrown, new_line, Held}
+use Rattle.rows.proofs.Reading.{Bytes}
+use Rattle.rows.specs.declared.RenderOptions.{RenderOptions}
+use Rattle.rows.specs.SubRenderer.{edge}
+use Rattle.rows.specs.Columns.{Slot, Column, cell_misfit, add_column, column_line, line_misfit}
+use Rattle.slots.specs.declared.seat.Seat.{Seat}
+use Rattle.slots.specs.Seat.{SeatIs}
+use Rattle.seats.specs.declared.row.Row.{Row}
+use Rattle.seats.specs.declared.row.Seats.{Seats}
+use Rattle.seats.specs.Row.{RowIs, SeatsLeft, FirstSeat}
+use Rattle.tagged_line.specs.Held.{Within, LineGrown, Held}
 use Rattle.tagged_line.specs.declared.line.Line.{Line}
-use Rattle.extend_lines.specs.Emitted.{InBounds, LineBegun, Emitted}
-use Rattle.extend_lines.specs.declared.line.Lines.{Lines}
-use Rattle.row_lines.specs.Seat.{seat_most, AddedIn, LeftAt, AddsKept, opened, OpensSeat}
-use Rattle.row_lines.specs.Row.{column_at, ColumnsAt, is_long, columns_from, LaysKept}
-use Rattle.row_lines.specs.declared.seat.Added.{Added}
-use Rattle.extend_lines.proofs.Growing.{or_first, or_second, size_of}
-use Rattle.row_lines.proofs.Growing.{grow_columns, short_line}
+use Rattle.extend_lines.proofs.Growing.{size_of}
+use Rattle.row_lines.specs.Seat.{LeftIn, AddsSeat, opened, OpensSeat}
+use Rattle.row_lines.specs.Left.{down, column_down, last, StandsAt}
+use Rattle.row_lines.specs.Mark.{Marked, EndsAt, FindsMarked, MarkSet, AllMarked}
+use Rattle.row_lines.specs.Row.{place_most, MarkedAdded, AddsMarked, is_long, line_most, columns_down, LaysSeats}
+use Rattle.row_lines.proofs.Growing.{columns_from, grow_columns, short_line}
+use Rattle.row_lines.proofs.MarkLaws.{lines_of, last_of_last, mark_put, marks_stay, marks_more, Numbered, numbered_none, Behind, numbered_on, number_mark, mark_number}
 
--- ---- a line of the row
+-- ---- columns one after the other
 
--- after the first column their number does not matter
-pub columns_later : (s : RenderOptions) (j k : ℕ) (l : List Piece) (cs : List Column) → columns_from s (suc j) l cs ≡ columns_from s (suc k) l cs
+-- Behind the first column their number does not matter.
+columns_later : (s : RenderOptions) (j k : ℕ) (l : List Piece) (cs : List Column) → columns_from s (suc j) l cs ≡ columns_from s (suc k) l cs
 unfolding columns_from
 columns_later s j k l [] = refl
 columns_later s j k l (c ∷ cs) = columns_later s (suc j) (suc k) (add_column s (opened s (suc j) l) c c.lines) cs
 
+columns_behind : (s : RenderOptions) (j k : ℕ) (l : List Piece) (cs : List Column) → 0 < j → 0 < k → columns_from s j l cs ≡ columns_from s k l cs
+columns_behind s zero k l cs h i = absurd (omega arith)
+columns_behind s (suc j) zero l cs h i = absurd (omega arith)
+columns_behind s (suc j) (suc k) l cs h i = columns_later s j k l cs
+
 -- From the first column on they give the line.
-pub columns_line : (s : RenderOptions) (l : List Piece) (cs : List Column) → columns_from s 0 l cs ≡ column_line s l cs
+columns_line : (s : RenderOptions) (l : List Piece) (cs : List Column) → columns_from s 0 l cs ≡ column_line s l cs
 unfolding columns_from column_line
 columns_line s l [] = refl
 columns_line s l (c ∷ []) = refl
@@ -48,245 +50,175 @@ columns_line s l (c ∷ d ∷ cs) =
     columns_later s 1 0 (add_column s (push_str (add_column s l c c.lines) s.annotation (edge s)) d d.lines) cs
     ∙ columns_line s (push_str (add_column s l c c.lines) s.annotation (edge s)) (d ∷ cs)
 
--- a column of a line that can be drawn can be
-misfit_at : (total : ℕ) (cs : List Column) (k : ℕ) → line_misfit total cs ≡ false → k < length cs → cell_misfit total (column_at cs k) (column_at cs k).lines ≡ false
-unfolding line_misfit
-misfit_at total [] k e h = absurd (omega arith)
-misfit_at total (c ∷ cs) zero e h = or_first (cell_misfit total c c.lines) (line_misfit total cs) e
-misfit_at total (c ∷ cs) (suc k) e h = misfit_at total cs k (or_second (cell_misfit total c c.lines) (line_misfit total cs) e) (omega arith)
+-- ---- one seat
 
--- a column in a list of columns without their first lines
-next_at : (cs : List Column) (k : ℕ) → column_at (map next_column cs) k ≡ next_column (column_at cs k)
-unfolding next_column
-next_at cs k = get_or-map next_column cs k (column (slot 0 0 0 1 []) [] none)
-
--- the seats of a row, and the store, the line that is begun and the places before its next line
-module _ (out₀ : List ℕ) (p : Lines) (line₀ : Line) (s : RenderOptions) (cells sheet ats₀ ends widths tos : List ℕ) (hungs : List Bool) (collapse : Bool) (n : ℕ) where
-  -- a column whose lines left stand from a place on
-  abbrev pub KeptLeft : ℕ → ℕ → Column → Type 0
-  KeptLeft k at c = LeftAt (source cells sheet (get_or hungs k false)) at (get_or ends k 0) (get_or widths k 0) (get_or tos k 0) collapse c
-
-  -- the first k columns are on the line, and stand one line further
-  pub record LaidTo (out ats : List ℕ) (line : Line) (k : ℕ) (st : List ℕ) (l₀ : List Piece) (cs : List Column) : Type 0 where
-    pub pieces : List Piece
-    pub held : Held st pieces out line
-    pub goes : (ds : List Column) → columns_from s k pieces (drop k cs ++ ds) ≡ column_line s l₀ (cs ++ ds)
-    pub moved : (j : ℕ) → j < k → KeptLeft j (get_or ats j 0) (next_column (column_at cs j))
-
-  -- with the numbers
-  pub record KeptLaid (out ats : List ℕ) (line : Line) (k : ℕ) : Type 0 where
-    pub few : k ≤ n
-    pub size : length out ≡ length out₀
-    pub same : length ats ≡ length ats₀
-    pub begun : LineBegun p line 2100000
-    pub ahead : (j : ℕ) → k ≤ j → get_or ats j 0 ≡ get_or ats₀ j 0
-    pub left : (st : List ℕ) (l₀ : List Piece) → Held st l₀ out₀ line₀ → (cs : List Column) → ColumnsAt cells sheet ats₀ ends widths tos hungs collapse n cs
-        → (total : ℕ) → line_misfit total cs ≡ false → LaidTo out ats line k st l₀ cs
-
-  -- None at first.
-  pub kept_start : LineBegun p line₀ 2100000 → KeptLaid out₀ ats₀ line₀ 0
-  kept_start b =
-      record {
-        few = omega arith;
-        size = refl;
-        same = refl;
-        begun = b;
-        ahead = λ j h. refl;
-        left = λ st l₀ held cs c total fine.
-            record { pieces = l₀; held = held; goes = λ ds. columns_line s l₀ (cs ++ ds); moved = λ j h. absurd (omega arith) };
-      }
-
-  module _ (out ats : List ℕ) (line : Line) (k : ℕ) (w : KeptLaid out ats line k) where
-    -- Room for an edge.
-    pub edge_room : p.at < 2 ^ 61 → Within line 16
-    edge_room b =
+-- What a seat gives from its mark on, and the mark behind it.
+pub marked_added : (out mid out' : List ℕ) (p q r : Line) (s : RenderOptions) (seat : Seat) (k : ℕ) (collapse : Bool) (i : ℕ) (marks marks' left behind : List ℕ)
+    → OpensSeat out p s k mid q → Bytes seat.lines.now → EndsAt marks k seat.lines.now left → FindsMarked marks k seat.lines.now collapse i left
+    → behind ≡ last (length behind) left → AddsSeat mid q s seat.width seat.to left collapse out' r behind → MarkSet marks k (length behind) marks'
+    → AddsMarked out p s seat k collapse i marks out' marks' r
+unfolding down
+marked_added out mid out' p q r s seat k collapse i marks marks' left behind o known ends f on g set =
+    record { n = length behind; set = set; adds = adds }
+  where
+    adds : (x : Slot) → SeatIs seat x → Marked marks k collapse i x → MarkedAdded out p s k collapse i out' marks' r x
+    adds x is m =
+        let l = lines_of seat x known is in
+        let at : LeftIn left seat.width seat.to collapse (column_down collapse i x) =
+        subst (λ (n : ℕ). LeftIn left n seat.to collapse (column_down collapse i x)) is.width_is
+        (subst (λ (n : ℕ). LeftIn left x.width n collapse (column_down collapse i x)) is.to_is (f x l m)) in
+        let t = g (column_down collapse i x) at in
+        let goes : StandsAt behind collapse (suc i) x =
+        subst (λ (n : ℕ). LeftIn behind n x.to collapse (column_down collapse (suc i) x)) (sym is.width_is)
+        (subst (λ (n : ℕ). LeftIn behind seat.width n collapse (column_down collapse (suc i) x)) (sym is.to_is) t.goes) in
         record {
-          base = w.begun.on;
-          piece = w.begun.piece;
-          room = omega (arith, w.begun.at, b);
-          cols = omega (arith, w.begun.cols);
+          held = λ total fine st z h. t.held total fine st (opened s k z) (o st z h);
+          moved = mark_put marks k seat.lines.now behind marks' collapse (suc i) x set l (λ h. last_of_last seat.lines.now left behind (ends h) on) goes;
         }
 
+-- ---- all of them
+
+module _ (out₀ : List ℕ) (line₀ : Line) (s : RenderOptions) (row : Row) (collapse : Bool) (i : ℕ) (marks₀ : List ℕ) where
+  -- some seats are on the line, and their marks one line further
+  pub record SomeLaid (out marks : List ℕ) (line : Line) (it : Seats) (k : ℕ) (xs : List Slot) (total width : ℕ) (st : List ℕ) (l : List Piece) : Type 0 where
+    pub ys : List Slot
+    pub zs : List Slot
+    pub are : xs ≡ ys ++ zs
+    pub ahead : SeatsLeft it zs total
+    pub number : Numbered (length marks / 2) k (length ys)
+    pub pieces : List Piece
+    pub held : Held st pieces out line
+    pub goes : columns_from s k pieces (columns_down collapse i zs) ≡ column_line s l (columns_down collapse i xs)
+    pub fine : line_misfit width (columns_down collapse i zs) ≡ false
+    pub gone : AllMarked marks 0 collapse (suc i) ys
+    pub waits : AllMarked marks (length ys) collapse i zs
+
+  -- with the numbers
+  pub record LaidTo (out marks : List ℕ) (line : Line) (it : Seats) (k : ℕ) : Type 0 where
+    pub size : length out ≡ length out₀
+    pub marks_size : length marks ≡ length marks₀
+    pub grown : LineGrown line₀ line line_most
+    pub left : (xs : List Slot) (total : ℕ) → RowIs row xs total → AllMarked marks₀ 0 collapse i xs
+        → (width : ℕ) → line_misfit width (columns_down collapse i xs) ≡ false → (st : List ℕ) (l : List Piece) → Held st l out₀ line₀
+        → SomeLaid out marks line it k xs total width st l
+
+  -- None at first.
+  pub laid_start : (it : Seats) → Within line₀ (line_most + place_most) → ((xs : List Slot) (total : ℕ) → RowIs row xs total → SeatsLeft it xs total)
+      → LaidTo out₀ marks₀ line₀ it 0
+  laid_start it b f =
+      record {
+        size = refl;
+        marks_size = refl;
+        grown = record { base = refl; piece = b.piece; on = omega arith; at = omega arith; wider = omega arith; cols = omega arith };
+        left = λ xs total a m width fine st l h.
+            record {
+              ys = [];
+              zs = xs;
+              are = refl;
+              ahead = f xs total a;
+              number = numbered_none (length marks₀ / 2);
+              pieces = l;
+              held = h;
+              goes = columns_line s l (columns_down collapse i xs);
+              fine = fine;
+              gone = tt;
+              waits = m;
+            };
+      }
+
+  module _ (out marks : List ℕ) (line : Line) (it : Seats) (k : ℕ) (w : LaidTo out marks line it k) where
     -- Room for a seat.
-    pub seat_room : (q : Line) → p.at < 2 ^ 61 → LineGrown line q 16 → Within q seat_most
-    seat_room q b g =
+    pub laid_room : Within line₀ (line_most + place_most) → Within line place_most
+    laid_room b =
         record {
-          base = omega (arith, g.base, g.on, w.begun.on);
-          piece = g.piece;
-          room = omega (arith, g.at, w.begun.at, b);
-          cols = omega (arith, g.cols, w.begun.cols);
+          base = omega (arith, w.grown.base, w.grown.on, b.base);
+          piece = w.grown.piece;
+          room = omega (arith, w.grown.at, b.room);
+          cols = omega (arith, w.grown.cols, b.cols);
+        }
+
+    -- A line in order.
+    pub laid_order : Within line₀ (line_most + place_most) → line.base ≤ line.at
+    laid_order b = omega (arith, w.grown.base, w.grown.on, b.base)
+
+    -- The line is too long.
+    pub laid_long : is_long line ≡ true → LaysSeats out₀ line₀ s row collapse i marks₀ out marks line
+    laid_long e xs total a m width fine st l h =
+        let t = w.left xs total a m width fine st l h in
+        record {
+          pieces = t.pieces;
+          held = t.held;
+          grows = omega (arith, grow_columns s k t.pieces (columns_down collapse i t.zs), ap size_of t.goes);
+          whole = λ x. absurd (clash e x);
+          moved = λ x. absurd (clash e x);
+        }
+
+    -- No seat is left.
+    pub laid_end : ((xs : List Slot) (total : ℕ) → SeatsLeft it xs total → xs ≡ []) → LaysSeats out₀ line₀ s row collapse i marks₀ out marks line
+    unfolding columns_from
+    laid_end f xs total a m width fine st l h =
+        let t = w.left xs total a m width fine st l h in
+        let none : t.zs ≡ [] = f t.zs total t.ahead in
+        let all_of : xs ≡ t.ys = t.are ∙ ap (λ (z : List Slot). t.ys ++ z) none ∙ append-nil t.ys in
+        let is : t.pieces ≡ column_line s l (columns_down collapse i xs) = ap (λ (z : List Slot). columns_from s k t.pieces (columns_down collapse i z)) (sym none) ∙ t.goes in
+        record {
+          pieces = t.pieces;
+          held = t.held;
+          grows = omega (arith, ap size_of is);
+          whole = λ _. is;
+          moved = λ _. subst (λ (z : List Slot). AllMarked marks 0 collapse (suc i) z) (sym all_of) t.gone;
         }
 
     -- One seat more.
-    pub kept_on : (mid out' : List ℕ) (q : Line) (r : Added) → k < n → k < length ats → is_long line ≡ false → LineGrown line q 16 → OpensSeat out line s k mid q
-        → length out' ≡ length out → AddedIn q (get_or ats k 0) r
-        → AddsKept mid q s cells sheet (get_or hungs k false) (get_or ats k 0) (get_or ends k 0) (get_or widths k 0) (get_or tos k 0) collapse out' r
-        → KeptLaid out' (set ats k r.next) r.line (k + 1)
-    unfolding columns_from
-    kept_on mid out' q r h room short g o size a f =
+    pub laid_on : (out' marks' : List ℕ) (r : Line) (seat : Seat) (rest : Seats) (j : ℕ) → Within line₀ (line_most + place_most) → is_long line ≡ false
+        → ((xs : List Slot) (total : ℕ) → SeatsLeft it xs total → FirstSeat seat rest xs total) → length out' ≡ length out → LineGrown line r place_most
+        → AddsMarked out line s seat k collapse i marks out' marks' r → Behind (length marks / 2) k j → LaidTo out' marks' r rest j
+    unfolding columns_from line_misfit
+    laid_on out' marks' r seat rest j room short next size g f b =
+        let n = short_line line short in
         record {
-          few = omega arith;
           size = size ∙ w.size;
-          same = length-set ats k r.next ∙ w.same;
-          begun =
+          marks_size = f.set.size ∙ w.marks_size;
+          grown =
               record {
-                base = a.grown.base ∙ g.base ∙ w.begun.base;
-                on = omega (arith, a.grown.base, a.grown.on, g.base, g.on, w.begun.on);
-                piece = a.grown.piece;
-                at = omega (arith, a.grown.at, g.at, w.begun.base, w.begun.on, (short_line line short).1);
-                cols = omega (arith, a.grown.cols, g.cols, (short_line line short).0);
+                base = g.base ∙ w.grown.base;
+                piece = g.piece;
+                on = omega (arith, g.on, w.grown.on);
+                at = omega (arith, g.at, n.1, w.grown.base, w.grown.on, room.base);
+                wider = omega (arith, g.wider, w.grown.wider);
+                cols = omega (arith, g.cols, n.0);
               };
-          ahead = λ j x. kept j (λ e. omega arith) ∙ w.ahead j (omega arith);
-          left = λ st l₀ on cs c total fine.
-              let t = w.left st l₀ on cs c total fine in
-              let d = column_at cs k in
-              let at_first : KeptLeft k (get_or ats k 0) d = subst (λ (z : ℕ). KeptLeft k z d) (sym (w.ahead k (omega arith))) (c.each k h) in
-              let x = f d at_first in
-              let one : k + 1 ≡ suc k = omega arith in
-              let split : drop k cs ≡ d ∷ drop (suc k) cs = drop-cons cs k (column (slot 0 0 0 1 []) [] none) (omega (arith, c.count)) in
+          left = λ xs total a m width fine st l h.
+              let t = w.left xs total a m width fine st l h in
+              let x = next t.zs total t.ahead in
+              let c = column_down collapse i x.one in
+              let cs = columns_down collapse i x.more in
+              let M = length marks / 2 in
+              let same : length marks' / 2 ≡ M = ap (λ (z : ℕ). z / 2) f.set.size in
+              let count : length (t.ys ++ (x.one ∷ [])) ≡ length t.ys + 1 = length-append t.ys (x.one ∷ []) in
+              let draws : line_misfit width (c ∷ cs) ≡ false = sym (ap (λ (z : List Slot). line_misfit width (columns_down collapse i z)) x.are) ∙ t.fine in
+              let waits : AllMarked marks (length t.ys) collapse i (x.one ∷ x.more) = subst (λ (z : List Slot). AllMarked marks (length t.ys) collapse i z) x.are t.waits in
+              let y = f.adds x.one x.seat_is (mark_number marks k (length t.ys) collapse i x.one t.number waits.0) in
+              let number : Numbered (length marks' / 2) k (length t.ys) = subst (λ (m : ℕ). Numbered m k (length t.ys)) (sym same) t.number in
+              let mark : Marked marks' (length t.ys) collapse (suc i) x.one = number_mark marks' k (length t.ys) collapse (suc i) x.one number y.moved in
+              let at_k : (z : ℕ) → z < M → z ≡ k → z ≡ length t.ys = λ z v e. e ∙ t.number.here (subst (λ (b : ℕ). b < M) e v) in
+              let others : AllMarked marks' 0 collapse (suc i) t.ys =
+              marks_stay marks marks' 0 collapse (suc i) t.ys f.set.size (λ z _ h v. f.set.others z (λ e. omega (arith, h, at_k z v e))) t.gone in
+              let later : AllMarked marks' (suc (length t.ys)) collapse i x.more =
+              marks_stay marks marks' (suc (length t.ys)) collapse i x.more f.set.size (λ z h _ v. f.set.others z (λ e. omega (arith, h, at_k z v e))) waits.1 in
               record {
-                pieces = add_column s (opened s k t.pieces) d d.lines;
-                held = x.held total (misfit_at total cs k fine (omega (arith, c.count))) st (opened s k t.pieces) (o st t.pieces t.held);
-                goes = λ ds.
-                    rw one (sym (ap (λ (z : List Column). columns_from s k t.pieces (z ++ ds)) split) ∙ t.goes ds);
-                moved = λ j y.
-                    ⊎_elim (λ z. subst (λ (m : ℕ). KeptLeft j m (next_column (column_at cs j))) (sym (kept j (λ e. omega arith))) (t.moved j z))
-                    (λ z.
-                    let e : k ≡ j = omega arith in
-                    subst (λ (i : ℕ). KeptLeft i (get_or (set ats k r.next) i 0) (next_column (column_at cs i))) e
-                    (subst (λ (m : ℕ). KeptLeft k m (next_column d)) (sym put) x.goes))
-                    (lt_or_le j k);
-              };
-        }
-      where
-        put : get_or (set ats k r.next) k 0 ≡ r.next
-        put = get_or-set_same ats k r.next 0 room
-
-        kept : (j : ℕ) → (j ≡ k → ⊥) → get_or (set ats k r.next) j 0 ≡ get_or ats j 0
-        kept j d = get_or-set_other ats k j r.next 0 d
-
-    kept_grows : (st : List ℕ) (l₀ : List Piece) (cs : List Column) (t : LaidTo out ats line k st l₀ cs) (ds : List Column)
-        → size_of t.pieces ≤ size_of (column_line s l₀ (cs ++ ds))
-    kept_grows st l₀ cs t ds = omega (arith, grow_columns s k t.pieces (drop k cs ++ ds), ap size_of (t.goes ds))
-
-    -- The line is too long.
-    pub kept_long : is_long line ≡ true → LaysKept out₀ line₀ s cells sheet ats₀ ends widths tos hungs collapse n out ats line
-    kept_long e st l₀ on cs c total fine =
-        let t = w.left st l₀ on cs c total fine in
-        record {
-          pieces = t.pieces;
-          held = t.held;
-          grows = kept_grows st l₀ cs t;
-          whole = λ x. absurd (let z : ◌≡◌ {A = ℕ} 0 1 = cc in omega arith);
-          moved = λ x. absurd (let z : ◌≡◌ {A = ℕ} 0 1 = cc in omega arith);
-        }
-
-    -- All seats.
-    pub kept_end : n ≤ k → LaysKept out₀ line₀ s cells sheet ats₀ ends widths tos hungs collapse n out ats line
-    kept_end h st l₀ on cs c total fine =
-        let t = w.left st l₀ on cs c total fine in
-        let e : k ≡ n = omega (arith, w.few) in
-        let no_more : drop k cs ≡ [] = drop_of_length-le cs {i = k} (omega (arith, c.count)) in
-        record {
-          pieces = t.pieces;
-          held = t.held;
-          grows = kept_grows st l₀ cs t;
-          whole = λ x ds. subst (λ (i : ℕ). columns_from s i t.pieces ds ≡ column_line s l₀ (cs ++ ds)) e
-              (sym (ap (λ (z : List Column). columns_from s k t.pieces (z ++ ds)) no_more) ∙ t.goes ds);
-          moved = λ x.
-              record {
-                count = length-map cs next_column ∙ c.count;
-                each = λ j y. subst (λ (d : Column). KeptLeft j (get_or ats j 0) d) (sym (next_at cs j)) (t.moved j (omega arith));
+                ys = t.ys ++ (x.one ∷ []);
+                zs = x.more;
+                are = t.are ∙ ap (λ (z : List Slot). t.ys ++ z) x.are ∙ sym (append_assoc t.ys (x.one ∷ []) x.more);
+                ahead = x.goes;
+                number = subst (λ (m : ℕ). Numbered m j (length (t.ys ++ (x.one ∷ [])))) (sym same)
+                    (subst (λ (z : ℕ). Numbered M j z) (sym count) (numbered_on M k (length t.ys) j t.number b));
+                pieces = add_column s (opened s k t.pieces) c c.lines;
+                held = y.held width (or_left (cell_misfit width c c.lines) (line_misfit width cs) draws) st t.pieces t.held;
+                goes = columns_behind s j (suc k) (add_column s (opened s k t.pieces) c c.lines) cs b.some (omega arith)
+                    ∙ sym (ap (λ (z : List Slot). columns_from s k t.pieces (columns_down collapse i z)) x.are) ∙ t.goes;
+                fine = or_right (cell_misfit width c c.lines) (line_misfit width cs) draws;
+                gone = marks_more marks' 0 collapse (suc i) t.ys x.one others (subst (λ (z : ℕ). Marked marks' z collapse (suc i) x.one) (omega arith) mark);
+                waits = subst (λ (z : ℕ). AllMarked marks' z collapse i x.more) (omega (arith, count)) later;
               };
         }
-
--- the place before a new line
-abbrev pub start_of : Line → Lines
-start_of l = record { at = l.base - 3; count = 0; long = false }
-
-pub start_at : (p : Lines) (l : Line) → l ≡ new_line p.at → (start_of l).at ≡ p.at
-start_at p l e = rw e (omega arith)
-
-pub start_new : (p : Lines) (l : Line) → l ≡ new_line p.at → l ≡ new_line (start_of l).at
-start_new p l e = e ∙ ap new_line (sym (start_at p l e))
-
-pub start_low : (p : Lines) (l : Line) → l ≡ new_line p.at → InBounds p → (start_of l).at < 2 ^ 61
-start_low p l e b = omega (arith, start_at p l e, b.at, b.count)
-
--- A line that is begun stands behind its own place.
-pub start_begun : (p : Lines) (line : Line) → LineBegun p line 2100000 → LineBegun (start_of line) line 2100000
-start_begun p line b = record { base = omega (arith, b.base); on = b.on; piece = b.piece; at = omega (arith, b.base, b.at); cols = b.cols }
-
--- What stands behind that place stands behind the lines.
-pub begun_from : (p : Lines) (line₀ line : Line) → LineBegun p line₀ 2100000 → LineBegun (start_of line₀) line 2100000 → LineBegun p line 2100000
-begun_from p line₀ line b w =
-    record { base = omega (arith, b.base, w.base); on = w.on; piece = w.piece; at = omega (arith, b.base, w.at); cols = w.cols }
-
-pub start_below : (p : Lines) (line : Line) → LineBegun p line 2100000 → InBounds p → (start_of line).at < 2 ^ 61
-start_below p line b i = omega (arith, b.base, i.at, i.count)
-
--- A line of some bytes and columns at most has no more than a greater number.
-pub begun_more : (p : Lines) (line : Line) (m n : ℕ) → m ≤ n → LineBegun p line m → LineBegun p line n
-begun_more p line m n h b = record { base = b.base; on = b.on; piece = b.piece; at = omega (arith, b.at); cols = omega (arith, b.cols) }
-
-pub or_true : (a : Bool) → (a || true) ≡ true
-or_true true = refl
-or_true false = refl
-
--- ---- all lines of the row
-
-pub lines_count : (s : RenderOptions) (m : ℕ) (cs : List Column) → length (column_lines s m cs) ≡ m
-unfolding column_lines
-lines_count s zero cs = refl
-lines_count s (suc m) cs = ap suc (lines_count s m (map next_column cs))
-
--- Names do not change their number.
-pub named_count : (ns : List (List ℕ)) (ls : List RenderLine) → length (named_lines ns ls) ≡ length ls
-unfolding named_lines
-named_count ns [] = refl
-named_count ns (text ps ∷ ls) = refl
-named_count ns (border a segs hs ∷ ls) = ap suc (named_count ns ls)
-
--- The first line takes the names, and the others come behind it.
-pub lines_first : (s : RenderOptions) (ns : List (List ℕ)) (m : ℕ) (cs : List Column)
-    → named_lines ns (column_lines s (suc m) cs) ≡ with_names ns (text (column_line s [] cs)) ∷ column_lines s m (map next_column cs)
-unfolding column_lines named_lines
-lines_first s ns m cs = refl
-
--- It is laid from the names on.
-pub line_named : (s : RenderOptions) (ns : List (List ℕ)) (cs : List Column) → with_names ns (text (column_line s [] cs)) ≡ text (column_line s (map fragment ns) cs)
-line_named s [] cs = refl
-line_named s (n ∷ ns) cs = ap text (named_row s (n ∷ ns) cs)
-
-pub misfit_first : (total m : ℕ) (cs : List Column) → lines_misfit total (suc m) cs ≡ false → (line_misfit total cs ≡ false) × (lines_misfit total m (map next_column cs) ≡ false)
-unfolding lines_misfit
-misfit_first total m cs e = (or_first (line_misfit total cs) (lines_misfit total m (map next_column cs)) e, or_second (line_misfit total cs) (lines_misfit total m (map next_column cs)) e)
-
-both_unfit : (a b c : Bool) → (b ≡ false → c ≡ false) → (a && b) ≡ false → (a && c) ≡ false
-both_unfit true b c f e = f e
-both_unfit false b c f e = refl
-
-unfit_more : (ls ms : List RenderLine) → all fits ls ≡ false → all fits (ls ++ ms) ≡ false
-unfolding all
-unfit_more [] ms e = absurd (let z : ◌≡◌ {A = ℕ} 0 1 = cc in omega arith)
-unfit_more (l ∷ ls) ms e = both_unfit (fits l) (all fits ls) (all fits (ls ++ ms)) (λ x. unfit_more ls ms x) e
-
--- Behind a line that is too long the others only count.
-pub long_more : (st : List ℕ) (ls ms : List RenderLine) (out : List ℕ) (q r : Lines) → Emitted st ls [] [] out q → q.long ≡ true → r.long ≡ true → r.count ≡ q.count + length ms
-    → Emitted st (ls ++ ms) [] [] out r
-unfolding all
-long_more st ls ms out q r e long rlong count =
-    record {
-      size = e.size;
-      count = count ∙ ap (λ (i : ℕ). i + length ms) e.count ∙ sym (length-append ls ms);
-      long = rlong ∙ sym (rw unfit);
-      place = λ ok. absurd (let y = rw unfit at ok in let z : ◌≡◌ {A = ℕ} 0 1 = cc in omega arith);
-      bytes = λ ok. absurd (let y = rw unfit at ok in let z : ◌≡◌ {A = ℕ} 0 1 = cc in omega arith);
-    }
-  where
-    go : (b : Bool) → all fits ls ≡ b → all fits ls ≡ false
-    go true x = absurd (let y : true ≡ false = sym long ∙ e.long ∙ rw x in let z : ◌≡◌ {A = ℕ} 0 1 = cc in omega arith)
-    go false x = x
-
-    unfit : all fits (ls ++ ms) ≡ false
-    unfit = unfit_more ls ms (go (all fits ls) refl)

@@ -1,6 +1,5 @@
 pub mod Seat
-pub mod Row
-pub mod Place
+pub mod Left
 pub mod Mark
-pub mod Rest
+pub mod Row
 pub mod Full

@@ -1,64 +1,83 @@
--- The kept seats of a row on a line.
+-- A line of a row.
 -- Assumes nothing: these are definitions.
-use Rattle.std.specs.Prelude.{◌≡◌, Bool, false, ◌||◌, List, [], ◌∷◌, ◌++◌, map, ℕ, suc, ◌-◌, ◌≤◌, ◌<◌, ltb, length, get_or}
-use Rattle.std.proofs.Math.Option.{none}
+use Rattle.std.specs.Prelude.{◌≡◌, Bool, false, ◌||◌, List, [], ◌∷◌, ◌++◌, map, ℕ, suc, ◌-◌, ◌≤◌, ltb, length}
+use Rattle.std.proofs.Math.Option.{some}
+use Rattle.fields.specs.Field.{raws, read_all}
 use Rattle.fields.specs.Sheet.{Piece, pieces_bytes}
+use Rattle.fields.specs.Spans.{RenderLine, text, read_name}
 use Rattle.rows.specs.declared.RenderOptions.{RenderOptions}
-use Rattle.rows.specs.Columns.{Slot, slot, Column, column, column_of, add_column, column_line, next_column, line_misfit}
-use Rattle.bodies.specs.Walk.{PassesTop}
-use Rattle.slots.specs.Seats.{source}
-use Rattle.seats.specs.Keep.{SeatsAre}
+use Rattle.rows.specs.SubRenderer.{with_names, padded}
+use Rattle.rows.specs.Columns.{Slot, Column, cell_misfit, add_column, column_line, line_misfit}
+use Rattle.slots.specs.declared.seat.Seat.{Seat}
+use Rattle.slots.specs.Seat.{SeatIs}
+use Rattle.seats.specs.declared.row.Row.{Row}
+use Rattle.seats.specs.Row.{RowIs}
 use Rattle.tagged_line.specs.Held.{Held}
 use Rattle.tagged_line.specs.declared.line.Line.{Line}
-use Rattle.row_lines.specs.Seat.{LeftAt, opened}
+use Rattle.extend_lines.specs.Emitted.{Emitted}
+use Rattle.extend_lines.specs.declared.line.Lines.{Lines}
+use Rattle.row_lines.specs.Seat.{opened}
+use Rattle.row_lines.specs.Left.{column_down}
+use Rattle.row_lines.specs.Mark.{Marked, MarkSet, AllMarked}
 
--- a column in a list
-abbrev pub column_at : List Column → ℕ → Column
-column_at cs k = get_or cs k (column (slot 0 0 0 1 []) [] none)
+-- ---- one seat
 
--- the numbers of the kept seats that a line needs
-abbrev pub Narrow : List ℕ → List ℕ → ℕ → Type 0
-Narrow widths tos n = (k : ℕ) → k < n → (get_or widths k 0 < 65791) × (get_or tos k 0 < 256)
+-- the most bytes and the most columns that a seat adds to a line, with an edge
+abbrev pub place_most : ℕ
+place_most = 1900016
 
--- the columns of the kept seats, whose lines left stand from the places on
-pub record ColumnsAt (cells sheet ats ends widths tos : List ℕ) (hungs : List Bool) (collapse : Bool) (n : ℕ) (cs : List Column) : Type 0 where
-  pub count : length cs ≡ n
-  pub each : (k : ℕ) → k < n
-      → LeftAt (source cells sheet (get_or hungs k false)) (get_or ats k 0) (get_or ends k 0) (get_or widths k 0) (get_or tos k 0) collapse (column_at cs k)
+-- what the column gives to the line, behind an edge, and its mark one line further
+pub record MarkedAdded (out : List ℕ) (p : Line) (s : RenderOptions) (k : ℕ) (collapse : Bool) (i : ℕ) (out' marks' : List ℕ) (r : Line) (x : Slot) : Type 0 where
+  pub held : (total : ℕ) → cell_misfit total (column_down collapse i x) (column_down collapse i x).lines ≡ false → (st : List ℕ) (l : List Piece) → Held st l out p
+      → Held st (add_column s (opened s k l) (column_down collapse i x) (column_down collapse i x).lines) out' r
+  pub moved : Marked marks' k collapse (suc i) x
 
--- `past_first`: the lines behind a first border, in the sheet or in the cells
-abbrev pub PassesKept : List ℕ → List ℕ → Bool → ℕ → ℕ → ℕ → Type 0
-PassesKept cells sheet hung at end r = PassesTop (source cells sheet hung) at end r
+-- `add_marked`; the marks of the others stay
+pub record AddsMarked (out : List ℕ) (p : Line) (s : RenderOptions) (seat : Seat) (k : ℕ) (collapse : Bool) (i : ℕ) (marks out' marks' : List ℕ) (r : Line) : Type 0 where
+  pub n : ℕ
+  pub set : MarkSet marks k n marks'
+  pub adds : (x : Slot) → SeatIs seat x → Marked marks k collapse i x → MarkedAdded out p s k collapse i out' marks' r x
 
--- `start_seats`: the columns of the kept seats at their first lines
-abbrev pub StartsSeats : List ℕ → List ℕ → List ℕ → List ℕ → List Bool → Bool → ℕ → List ℕ → Type 0
-StartsSeats cells sheet ats ends hungs collapse n ats' =
-    (widths tos spans : List ℕ) (xs : List Slot) → length xs ≡ n → SeatsAre cells sheet ats ends widths tos spans hungs n xs
-    → ColumnsAt cells sheet ats' ends widths tos hungs collapse n (map (column_of collapse) xs)
-
--- ---- a line of the row
+-- ---- all of them
 
 -- a line that is too long for its field: its bytes show it, or its columns, of which a byte of text gives two at most
 abbrev pub is_long : Line → Bool
 is_long p = ltb 131070 p.cols || ltb 65535 (p.at - p.base)
 
--- what columns give to a line, the first of which is the k-th of the row
-unfoldable pub columns_from : RenderOptions → ℕ → List Piece → List Column → List Piece
-columns_from s k l [] = l
-columns_from s k l (c ∷ cs) = columns_from s (suc k) (add_column s (opened s k l) c c.lines) cs
+-- the most bytes and the most columns that the seats add to a line: one seat more than is too long
+abbrev pub line_most : ℕ
+line_most = 2040000
 
--- the kept columns are on a line that held l₀: all of them, and they stand one line further; or so many that the line is too long
-pub record KeptLine (st : List ℕ) (l₀ : List Piece) (s : RenderOptions) (cells sheet ends widths tos : List ℕ) (hungs : List Bool) (collapse : Bool) (n : ℕ)
-    (out' ats' : List ℕ) (r : Line) (cs : List Column) : Type 0 where
+-- the columns of seats, i lines down
+abbrev pub columns_down : Bool → ℕ → List Slot → List Column
+columns_down collapse i xs = map (column_down collapse i) xs
+
+-- the columns are on a line that held l: all of them, and their marks one line further; or so many that the line is too long
+pub record LineLaid (s : RenderOptions) (collapse : Bool) (i : ℕ) (out' marks' : List ℕ) (r : Line) (xs : List Slot) (st : List ℕ) (l : List Piece) : Type 0 where
   pub pieces : List Piece
   pub held : Held st pieces out' r
-  pub grows : (ds : List Column) → length (pieces_bytes pieces) ≤ length (pieces_bytes (column_line s l₀ (cs ++ ds)))
-  pub whole : is_long r ≡ false → (ds : List Column) → columns_from s n pieces ds ≡ column_line s l₀ (cs ++ ds)
-  pub moved : is_long r ≡ false → ColumnsAt cells sheet ats' ends widths tos hungs collapse n (map next_column cs)
+  pub grows : length (pieces_bytes pieces) ≤ length (pieces_bytes (column_line s l (columns_down collapse i xs)))
+  pub whole : is_long r ≡ false → pieces ≡ column_line s l (columns_down collapse i xs)
+  pub moved : is_long r ≡ false → AllMarked marks' 0 collapse (suc i) xs
 
--- `lay_kept`
-abbrev pub LaysKept : List ℕ → Line → RenderOptions → List ℕ → List ℕ → List ℕ → List ℕ → List ℕ → List ℕ → List Bool → Bool → ℕ → List ℕ → List ℕ → Line → Type 0
-LaysKept out p s cells sheet ats ends widths tos hungs collapse n out' ats' r =
-    (st : List ℕ) (l₀ : List Piece) → Held st l₀ out p
-    → (cs : List Column) → ColumnsAt cells sheet ats ends widths tos hungs collapse n cs → (total : ℕ) → line_misfit total cs ≡ false
-    → KeptLine st l₀ s cells sheet ends widths tos hungs collapse n out' ats' r cs
+-- `lay_seats`
+abbrev pub LaysSeats : List ℕ → Line → RenderOptions → Row → Bool → ℕ → List ℕ → List ℕ → List ℕ → Line → Type 0
+LaysSeats out p s row collapse i marks out' marks' r =
+    (xs : List Slot) (total : ℕ) → RowIs row xs total → AllMarked marks 0 collapse i xs
+    → (width : ℕ) → line_misfit width (columns_down collapse i xs) ≡ false → (st : List ℕ) (l : List Piece) → Held st l out p
+    → LineLaid s collapse i out' marks' r xs st l
+
+-- ---- a line behind others
+
+-- a line more, with names in front, and, unless a line is too long, the marks one line further
+pub record LineAdded (ns : List (List ℕ)) (s : RenderOptions) (collapse : Bool) (i : ℕ) (out' marks' : List ℕ) (r : Lines) (xs : List Slot) (st : List ℕ)
+    (ls : List RenderLine) : Type 0 where
+  pub emitted : Emitted st (ls ++ (padded s (with_names ns (text (column_line s [] (columns_down collapse i xs)))) ∷ [])) [] [] out' r
+  pub moved : r.long ≡ false → AllMarked marks' 0 collapse (suc i) xs
+
+-- `add`
+abbrev pub AddsLine : List ℕ → Lines → List ℕ → RenderOptions → Row → Bool → ℕ → List ℕ → List ℕ → List ℕ → Lines → Type 0
+AddsLine out p names s row collapse i marks out' marks' r =
+    (ns : List (List ℕ)) → read_all read_name (raws names) ≡ some ns → (xs : List Slot) (total : ℕ) → RowIs row xs total → AllMarked marks 0 collapse i xs
+    → (width : ℕ) → line_misfit width (columns_down collapse i xs) ≡ false → (st : List ℕ) (ls : List RenderLine) → Emitted st ls [] [] out p
+    → LineAdded ns s collapse i out' marks' r xs st ls

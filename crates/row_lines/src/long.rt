@@ -9,8 +9,5 @@ pub fn is_long(line: Line) -> bool
     requires { line.base ≤ line.at }
     ensures { result ≡ is_long line }
 {
-    if 131070 < line.cols {
-        return true;
-    }
-    65535 < line.at - line.base
+    131070 < line.cols || 65535 < line.at - line.base
 }

@@ -1,107 +1,45 @@
-// The places of the seats behind the first, in the bytes of their lines: so many as there is room for are kept as marks, of two bytes each,
-// and the others are found anew. What a function here requires, its callers in this crate show.
-ghost use Rattle.slots.specs.Seats.{SeatIn, SlotsIn};
-ghost use Rattle.row_lines.specs.Mark.{FindsFirst, FindsCursor, CursorSet, SomeSet, StartsMark, StartsMarks, StartsAhead};
+// What is left of the lines of a row's seats: of so many seats as there is room for it is kept as a mark, a number of bytes in two bytes, and of
+// the others it is found anew. What a function here requires, its callers in this crate show.
+ghost use Rattle.std.specs.Prelude.{◌≤◌, ◌<◌, length};
+ghost use Rattle.rows.proofs.Reading.{Bytes};
+ghost use Rattle.row_lines.specs.Mark.{EndsAt, FindsMarked, MarkSet, StartsMarks};
 
-use crate::place::find_place;
-use bodies::walk::past_top;
-use fields::field::wide;
-use slots::seat::{Next, Seat, Slots, next_slot};
+use crate::left::{first_lines, lines_down};
+use seats::row::Row;
 
-// The place of a seat's first line, behind a first border that collapsing takes off.
-pub fn first_place(lines: &[u8], collapse: bool) -> usize
-    ensures { FindsFirst lines.now collapse result }
-{
-    if collapse {
-        return past_top(lines, 0, lines.len());
-    }
-    0
-}
-
-// The place of the next line of the k-th seat, i lines down.
-pub fn cursor(marks: &[u8], k: usize, lines: &[u8], collapse: bool, i: usize) -> usize
-    ensures { FindsCursor marks.now k lines.now collapse i result }
+// The lines of the k-th seat that are left, so many lines down.
+pub fn lines_left<'a>(marks: &[u8], k: usize, lines: &'a [u8], collapse: bool, n: usize) -> &'a [u8]
+    ensures known { Bytes lines.entry.now }
+    ensures shorter { length result.now ≤ length lines.entry.now }
+    ensures ends { EndsAt marks.now k lines.entry.now result.now }
+    ensures finds_marked { FindsMarked marks.now k lines.entry.now collapse n result.now }
 {
     if k < marks.len() / 2 {
-        return wide(marks[2 * k]) * 256 + wide(marks[2 * k + 1]);
+        let size = usize::from(marks[2 * k]) * 256 + usize::from(marks[2 * k + 1]);
+        return &lines[lines.len().saturating_sub(size)..];
     }
-    let first = first_place(lines, collapse);
-    find_place(lines, first, lines.len(), collapse, i)
+    lines_down(lines, collapse, n)
 }
 
-// The mark of the k-th seat, if it has one; and the number of the next mark.
-pub fn set_cursor(marks: &mut [u8], k: usize, at: usize) -> usize
-    ensures { CursorSet marks.old k at marks.new result }
+// The mark of the k-th seat, if there is room for it.
+pub fn set_mark(marks: &mut [u8], k: usize, left: &[u8])
+    requires { length left.now < 65536 }
+    ensures { MarkSet marks.old k (length left.now) marks.new }
 {
     if marks.len() / 2 <= k {
-        return k;
-    }
-    if 65535 < at {
-        return k + 1;
-    }
-    marks[2 * k] = (at / 256) as u8;
-    marks[2 * k + 1] = (at % 256) as u8;
-    k + 1
-}
-
-// The mark of the k-th seat at its first line; and the number of the next mark.
-fn start_mark(
-    marks: &mut [u8],
-    cells: &[u8],
-    sheet: &[u8],
-    seat: Seat,
-    collapse: bool,
-    k: usize,
-) -> usize
-    requires { SeatIn cells.now sheet.now seat }
-    ensures some_set { SomeSet marks.old k marks.new result }
-    ensures starts_mark { StartsMark cells.now sheet.now seat collapse k marks.new }
-{
-    let from = seat.at;
-    let end = seat.end;
-    if seat.hung {
-        let at = first_place(&sheet[from..end], collapse);
-        return set_cursor(marks, k, at);
-    }
-    let at = first_place(&cells[from..end], collapse);
-    set_cursor(marks, k, at)
-}
-
-// The marks of all seats ahead at their first lines.
-fn start_marks(marks: &mut [u8], cells: &[u8], sheet: &[u8], first: Slots, collapse: bool)
-    requires { SlotsIn cells.now sheet.now first }
-    ensures { StartsMarks cells.now sheet.now first collapse marks.new }
-{
-    let mut st = first;
-    let mut k: usize = 0;
-    loop {
-        let next = next_slot(cells, sheet, st);
-        match next {
-            Next::Is { seat, rest } => {
-                k = start_mark(marks, cells, sheet, seat, collapse, k);
-                st = rest;
-            }
-            Next::NoMore(_) => {
-                return;
-            }
-        }
-    }
-}
-
-// The same, where there are any.
-pub fn start_ahead(
-    marks: &mut [u8],
-    cells: &[u8],
-    sheet: &[u8],
-    more: bool,
-    first: Slots,
-    collapse: bool,
-)
-    requires { SlotsIn cells.now sheet.now first }
-    ensures { StartsAhead cells.now sheet.now more first collapse marks.new }
-{
-    if !more {
         return;
     }
-    start_marks(marks, cells, sheet, first, collapse);
+    marks[2 * k] = (left.len() / 256) as u8;
+    marks[2 * k + 1] = (left.len() % 256) as u8;
+}
+
+// The marks of all seats, from their first lines on.
+pub fn start_marks(marks: &mut [u8], row: &Row<'_>, collapse: bool)
+    ensures { StartsMarks row.now collapse marks.new }
+{
+    let mut k: usize = 0;
+    for seat in row.iter() {
+        set_mark(marks, k, first_lines(seat.lines, collapse));
+        k = k.saturating_add(1);
+    }
 }

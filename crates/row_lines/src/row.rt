@@ -1,85 +1,94 @@
-// The kept seats of a row on a line. What a function here requires, its callers show.
-ghost use Rattle.std.specs.Prelude.{◌≤◌, length};
-ghost use Rattle.extend_lines.specs.Emitted.{InBounds, LineBegun};
-ghost use Rattle.row_lines.specs.Row.{Narrow, PassesKept, StartsSeats, LaysKept};
+// A line of a row. What a function here requires, its callers in this crate show.
+ghost use Rattle.std.specs.Prelude.{◌+◌};
+ghost use Rattle.tagged_line.specs.Held.{Within, LineGrown};
+ghost use Rattle.extend_lines.specs.Emitted.{InBounds, OneLineMore};
+ghost use Rattle.row_lines.specs.Seat.{seat_most};
+ghost use Rattle.row_lines.specs.Row.{place_most, line_most, AddsMarked, LaysSeats, AddsLine};
 
 use crate::long::is_long;
-use crate::seat::{add_kept, open_seat};
-use bodies::walk::past_top;
-use extend_lines::line::Lines;
+use crate::mark::{lines_left, set_mark};
+use crate::seat::{add_seat, open_seat};
+use extend_lines::line::{Lines, add_text_line, begin_line, too_long};
 use rows::RenderOptions;
+use seats::row::Row;
+use slots::seat::Seat;
 use tagged_line::line::Line;
 
-// Where the lines of a seat begin behind a first border that collapsing takes off.
-fn past_first(cells: &[u8], sheet: &[u8], hung: bool, at: usize, end: usize) -> usize
-    ensures { PassesKept cells.now sheet.now hung at end result }
-{
-    if hung {
-        return past_top(sheet, at, end);
-    }
-    past_top(cells, at, end)
+// A row, collapsed or not, and how many of its lines are above.
+#[derive(Clone, Copy)]
+pub struct RowLine<'r, 'a> {
+    pub row: &'r Row<'a>,
+    pub collapse: bool,
+    pub above: usize,
 }
 
-// The places of the kept seats at their first lines, in a slice of them.
-pub fn start_seats(
-    cells: &[u8],
-    sheet: &[u8],
-    at: &mut [usize],
-    end: &[usize; 16],
-    hung: &[bool; 16],
-    collapse: bool,
-    n: usize,
-)
-    requires { (n ≤ length at.old) × (n ≤ 16) }
-    ensures { StartsSeats cells.now sheet.now
-        at.old end.now hung.now
-        collapse n at.new }
-{
-    if !collapse {
-        return;
+impl<'r, 'a> RowLine<'r, 'a> {
+    // What the k-th seat gives to the line, behind an edge; its mark goes on by a line.
+    fn add_marked(
+        self,
+        out: &mut [u8],
+        line: Line,
+        options: RenderOptions,
+        seat: Seat<'_>,
+        k: usize,
+        marks: &mut [u8],
+    ) -> Line
+        requires { Within line place_most }
+        ensures line_grown { LineGrown line result place_most }
+        ensures adds_marked { AddsMarked out.old line options seat.entry k self.entry.collapse self.entry.above marks.old out.new marks.new result }
+    {
+        let opened = open_seat(out, line, options, k);
+        let left = lines_left(marks, k, seat.lines, self.collapse, self.above);
+        let (line, left) = add_seat(out, opened, options, seat, left, self.collapse);
+        set_mark(marks, k, left);
+        line
     }
-    let mut k: usize = 0;
-    while k < n {
-        at[k] = past_first(cells, sheet, hung[k], at[k], end[k]);
-        k += 1;
-    }
-}
 
-// The kept seats on a line that is begun, up to where it is too long; each that is passed stands one line further.
-pub fn lay_kept(
-    out: &mut [u8],
-    lines: Lines,
-    begun: Line,
-    options: RenderOptions,
-    cells: &[u8],
-    sheet: &[u8],
-    at: &mut [usize],
-    end: &[usize; 16],
-    width: &[usize; 16],
-    to: &[usize; 16],
-    hung: &[bool; 16],
-    collapse: bool,
-    n: usize,
-) -> Line
-    requires { InBounds lines × LineBegun lines begun 2100000 × (n ≤ length at.old) × (n ≤ 16) × Narrow width.now to.now n }
-    ensures line_begun { LineBegun lines result 2100000 }
-    ensures lays_kept { LaysKept out.old begun options cells.now sheet.now
-        at.old end.now width.now to.now hung.now
-        collapse n out.new at.new result }
-{
-    let mut line = begun;
-    let mut k: usize = 0;
-    while k < n {
-        if is_long(line) {
-            return line;
+    // All seats on a line that is begun, up to where it is too long.
+    fn lay_seats(
+        self,
+        out: &mut [u8],
+        begun: Line,
+        options: RenderOptions,
+        marks: &mut [u8],
+    ) -> Line
+        requires { Within begun (line_most + place_most) }
+        ensures line_grown { LineGrown begun result line_most }
+        ensures lays_seats { LaysSeats out.old begun options self.entry.row.now self.entry.collapse self.entry.above marks.old out.new marks.new result }
+    {
+        let mut line = begun;
+        let mut k: usize = 0;
+        for seat in self.row.iter() {
+            if is_long(line) {
+                return line;
+            }
+            line = self.add_marked(out, line, options, seat, k, marks);
+            k = k.saturating_add(1);
         }
-        let edged = open_seat(out, line, options, k);
-        let a = add_kept(
-            out, edged, options, cells, sheet, hung[k], at[k], end[k], width[k], to[k], collapse,
-        );
-        line = a.line;
-        at[k] = a.next;
-        k += 1;
+        line
     }
-    line
+
+    // The line behind others, which takes the names; more of them than a line holds make it too long.
+    pub fn add(
+        self,
+        out: &mut [u8],
+        lines: Lines,
+        names: &[u8],
+        options: RenderOptions,
+        marks: &mut [u8],
+    ) -> Lines
+        requires { InBounds lines }
+        ensures one_line_more { OneLineMore lines result }
+        ensures adds_line { AddsLine out.old lines names.now options self.entry.row.now self.entry.collapse self.entry.above marks.old out.new marks.new result }
+    {
+        if 65535 < names.len() {
+            return too_long(lines);
+        }
+        let begun = begin_line(out, lines, names);
+        let line = self.lay_seats(out, begun, options, marks);
+        if is_long(line) {
+            return too_long(lines);
+        }
+        add_text_line(out, lines, line, options)
+    }
 }

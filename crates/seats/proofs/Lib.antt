@@ -1,3 +1,3 @@
-pub mod Keeping
+pub mod RowLaws
 pub mod SurveyLaws
 pub mod PlainLaws

@@ -17,7 +17,7 @@ use Rattle.rows.specs.Columns.{Slot, Column, column_of, overlaps, too_wide, cell
 use Rattle.rows.proofs.Columns.{misfit_columns}
 use Rattle.bodies.specs.Walk.{unholed}
 use Rattle.seats.specs.Survey.{PlainSlot}
-use Rattle.seats.proofs.SurveyLaws.{span_of}
+use Rattle.seats.proofs.SurveyLaws.{column_span, column_width}
 
 -- ---- refusal 10
 
@@ -45,18 +45,13 @@ fits_column total zero c h k = refl
 fits_column total (suc n) c h k =
     ap₂ (λ (x y : Bool). x || y) (fits_line total c c.lines h k) (fits_column total n (next_column c) h (bare_rest c.lines k))
 
-width_of : (collapse : Bool) (x : Slot) → (column_of collapse x).width ≡ x.width
-unfolding column_of
-width_of true x = refl
-width_of false x = refl
-
 fits_columns : (total n : ℕ) (collapse : Bool) (xs : List Slot) → Every (PlainSlot collapse total) xs
     → any_misfit total n (map (column_of collapse) xs) ≡ false
 unfolding any_misfit
 fits_columns total n collapse [] p = refl
 fits_columns total n collapse (x ∷ xs) p =
     let q = p.0 in
-    ap₂ (λ (y z : Bool). y || z) (fits_column total n (column_of collapse x) (rw (width_of collapse x) q.narrow) q.bare)
+    ap₂ (λ (y z : Bool). y || z) (fits_column total n (column_of collapse x) (rw (column_width collapse x) q.narrow) q.bare)
     (fits_columns total n collapse xs p.1)
 
 -- ---- holes and what hangs
@@ -67,7 +62,7 @@ pub plain_holes : (o : RenderOptions) (n pos total : ℕ) (collapse : Bool) (xs 
 unfolding holes_of
 plain_holes o n pos total collapse [] p = refl
 plain_holes o n pos total collapse (x ∷ xs) p =
-    let s : (column_of collapse x).span ≡ 1 = span_of collapse x ∙ p.0.one in
+    let s : (column_of collapse x).span ≡ 1 = column_span collapse x ∙ p.0.one in
     rw s (plain_holes o n (pos + (column_of collapse x).width + 1) total collapse xs p.1)
 
 -- NOTHING HANGS ON.
@@ -76,7 +71,7 @@ pub plain_hangs : (o : RenderOptions) (n total : ℕ) (collapse : Bool) (xs : Li
 unfolding hangs_of
 plain_hangs o n total collapse [] p = refl
 plain_hangs o n total collapse (x ∷ xs) p =
-    let s : (column_of collapse x).span ≡ 1 = span_of collapse x ∙ p.0.one in
+    let s : (column_of collapse x).span ≡ 1 = column_span collapse x ∙ p.0.one in
     rw s (plain_hangs o n total collapse xs p.1)
 
 -- THE ROW FITS OVER ANY BORDER.

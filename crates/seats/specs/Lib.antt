@@ -1,2 +1,2 @@
-pub mod Keep
+pub mod Row
 pub mod Survey

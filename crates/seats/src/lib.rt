@@ -1,6 +1,6 @@
-// The first cells of a row in arrays (request 2.1), so that a row of few cells is walked once; and what a row is asked before anything
-// is written.
+// A row of cells (request 2.1): the first of them kept, so that a row of few cells is read once; and what a row is asked before anything is
+// written.
 #![tactic(auto)]
 
-pub mod keep;
+pub mod row;
 pub mod survey;

@@ -1,129 +1,202 @@
--- What stands where a field is found among cells.
+-- The parts of a C or K field, and of a V field, that the definitions read.
 -- Assumes nothing.
-use mathlib.Core.Path.{◌≡◌, refl, sym, ap, ap₂, ◌∙◌}
-use mathlib.Core.Bool.{Bool, true, false}
+use Rattle.std.proofs.Common.{◌≡◌, ℕ, ◌+◌, ◌-◌, ◌*◌, ◌≤◌, ◌<◌, Bool, true, false, eqb, eqb-true, List, [], ◌∷◌, length, take, drop, get_or, refl, sym, ap, ◌∙◌, arith, Bor, length-drop, eq-eqb, ne_eqb, take_all}
+use Rattle.std.proofs.lemmas.Bool.{eqb-false}
 use mathlib.Core.Option.{Option, none, some, map}
-use mathlib.Core.List.{List, [], ◌∷◌}
-use Prim.Native.Nat.{ℕ, ◌+◌, ◌-◌, ◌≤◌, ◌<◌}
-use native.Mathlib.Omega.{arith}
-use lib.Dec.{eqb}
-use lib.ListN.{length, take, drop, get_or, length-drop}
-use lib.Seq.{length-take-le, drop-drop, get_or-take, get_or-drop}
-use borrow.Author.Tests.{eqb-true, eqb-false, eq-eqb, ne_eqb}
-use Rattle.characters.proofs.Tests.{by_if}
-use Rattle.fields.specs.Field.{whole, raws, read_all, field_at, part}
-use Rattle.fields.specs.declared.field.Field.TheVariants.{At, Broken, End}
-use Rattle.fields.proofs.Fields.{field_is, field_broken, field_end}
-use Rattle.fields.proofs.Readings.{ReadFirst, read_first, read_none}
-use Rattle.fields.proofs.Parts.{drop_take}
+use Rattle.characters.proofs.Tests.{by_if, and_left}
+use Rattle.fields.specs.Field.{Raw, whole, broken, raws, read_all, all}
+use Rattle.fields.specs.List.{whole_of}
+use Rattle.fields.specs.declared.raw.Field.{Field}
+use Rattle.fields.specs.Spans.{RenderLine, Hanging, hanging, Cell as FlatCell, cell, read_line, is_span, read_hanging_content, read_hanging, read_cell_content, read_span_content, read_cell, readable_hanging}
+use Rattle.fields.specs.Places.{CellsIn, OverhangIn}
+use Rattle.fields.proofs.Fields.{raws_nil}
+use Rattle.fields.proofs.Readings.{read_first, read_none}
 use Rattle.rows.proofs.Reading.{OnSome, some_of}
-use Rattle.fields.specs.Spans.{RenderLine, Cell, cell, read_line, is_span, read_cell_content, read_span_content, read_cell}
-use Rattle.fields.specs.Places.{CellsFrom}
-use Rattle.slots.specs.Cell.{FirstCell}
-use Rattle.slots.proofs.Laws.{found_at}
+use Rattle.slots.specs.declared.cell.Cell.{Cell}
+use Rattle.slots.specs.declared.hanging.HangingCell.{HangingCell}
+use Rattle.slots.specs.declared.seat.Seat.{Seat}
+use Rattle.slots.specs.Cell.{CellIs}
+use Rattle.slots.specs.Hanging.{HangingIs}
+use Rattle.slots.specs.Seat.{SeatOfHanging, FirstHanging}
+
+-- the bytes behind the first k
+behind : (k : ℕ) (t : List ℕ) → take (length t - k) (drop k t) ≡ drop k t
+behind k t = take_all (length t - k) (drop k t) (omega (arith, length-drop k t))
+
+-- ---- a C or a K field
 
 -- the parts of a cell's content behind k head bytes
-record Parts (t : List ℕ) (k span : ℕ) (c : Cell) : Type 0 where
+record CellParts (t : List ℕ) (k span : ℕ) (c : FlatCell) : Type 0 where
   room : k ≤ length t
   width_is : c.width ≡ get_or t 0 0
   span_is : c.span ≡ span
   spans : is_span span ≡ true
   lines_are : read_all read_line (raws (drop k t)) ≡ some c.lines
 
-plain_parts : (t : List ℕ) → OnSome (Parts t 1 1) (read_cell_content t)
+plain_parts : (t : List ℕ) → OnSome (CellParts t 1 1) (read_cell_content t)
 plain_parts [] = tt
 plain_parts (w ∷ ls) = go (read_all read_line (raws ls)) refl
   where
-    go : (o : Option (List RenderLine)) → read_all read_line (raws ls) ≡ o → OnSome (Parts (w ∷ ls) 1 1) (map (cell w 1) o)
+    go : (o : Option (List RenderLine)) → read_all read_line (raws ls) ≡ o → OnSome (CellParts (w ∷ ls) 1 1) (map (cell w 1) o)
     go none e = tt
     go (some l) e = record { room = omega arith; width_is = refl; span_is = refl; spans = refl; lines_are = e }
 
-span_parts : (t : List ℕ) → OnSome (Parts t 2 (get_or t 1 0)) (read_span_content t)
+span_parts : (t : List ℕ) → OnSome (CellParts t 2 (get_or t 1 0)) (read_span_content t)
 span_parts [] = tt
 span_parts (w ∷ []) = tt
-span_parts (w ∷ n ∷ ls) = by_if (OnSome (Parts (w ∷ n ∷ ls) 2 n)) (is_span n) (λ i. go i (read_all read_line (raws ls)) refl) (λ _. tt)
+span_parts (w ∷ n ∷ ls) = by_if (OnSome (CellParts (w ∷ n ∷ ls) 2 n)) (is_span n) (λ i. go i (read_all read_line (raws ls)) refl) (λ _. tt)
   where
-    go : is_span n ≡ true → (o : Option (List RenderLine)) → read_all read_line (raws ls) ≡ o → OnSome (Parts (w ∷ n ∷ ls) 2 n) (map (cell w n) o)
+    go : is_span n ≡ true → (o : Option (List RenderLine)) → read_all read_line (raws ls) ≡ o → OnSome (CellParts (w ∷ n ∷ ls) 2 n) (map (cell w n) o)
     go i none e = tt
     go i (some l) e = record { room = omega arith; width_is = refl; span_is = refl; spans = i; lines_are = e }
 
-c_parts : (l : ℕ) (t : List ℕ) → l ≡ 0x43 → OnSome (Parts t 1 1) (read_cell (whole l t))
+c_parts : (l : ℕ) (t : List ℕ) → l ≡ 0x43 → OnSome (CellParts t 1 1) (read_cell (whole l t))
 unfolding read_cell
 c_parts l t e = rw (eq-eqb l 0x43 e) (plain_parts t)
 
-k_parts : (l : ℕ) (t : List ℕ) → (l ≡ 0x43 → ⊥) → OnSome (Parts t 2 (get_or t 1 0)) (read_cell (whole l t))
+k_parts : (l : ℕ) (t : List ℕ) → (l ≡ 0x43 → ⊥) → OnSome (CellParts t 2 (get_or t 1 0)) (read_cell (whole l t))
 unfolding read_cell
-k_parts l t e = rw (ne_eqb l 0x43 e) (by_if (OnSome (Parts t 2 (get_or t 1 0))) (eqb l 0x4B) (λ _. span_parts t) (λ _. tt))
+k_parts l t e = rw (ne_eqb l 0x43 e) (by_if (OnSome (CellParts t 2 (get_or t 1 0))) (eqb l 0x4B) (λ _. span_parts t) (λ _. tt))
 
--- a cell that is found, behind k head bytes
-there : (s : List ℕ) (l st nx k span : ℕ) (cs : List Cell) → 1 ≤ k → st ≤ nx → nx ≤ length s
-    → (x : ReadFirst read_cell (whole l (part st nx s)) (raws (drop nx s)) cs) → Parts (part st nx s) k span x.one
-    → (st + k ≤ nx) × FirstCell s (get_or s st 0) span (st + k) nx cs
-there s l st nx k span cs one h i x p =
-    let t = part st nx s in
-    let n : length t ≡ nx - st = length-take-le (nx - st) (drop st s) (simp length-drop (omega arith)) in
-    let room : st + k ≤ nx = omega (arith, p.room, n) in
-    let zero_more : st + 0 ≡ st = omega arith in
-    let first : get_or t 0 0 ≡ get_or s st 0 = get_or-take (nx - st) (drop st s) 0 0 (omega (arith, room)) ∙ get_or-drop st s 0 0 ∙ ap (λ (m : ℕ). get_or s m 0) zero_more in
-    let d : nx - st - k ≡ nx - (st + k) = omega arith in
-    let rest : drop k t ≡ part (st + k) nx s =
-    drop_take k (nx - st) (drop st s) (omega (arith, room)) (omega (arith, length-drop st s)) ∙ ap₂ (λ (m : ℕ) (y : List ℕ). take m y) d (drop-drop k st s) in (
-      room,
-      record {
-        one = x.one;
-        more = x.more;
-        are = x.are;
-        width_is = p.width_is ∙ first;
-        span_is = p.span_is;
-        spans = p.spans;
-        lines = record { order = room; inside = i; reads = ap (λ (b : List ℕ). read_all read_line (raws b)) (sym rest) ∙ p.lines_are };
-        goes = record { reads = x.later };
-      },
-    )
+-- A C FIELD.
+pub plain_cell : (f : Field) (c : Cell) → f.letter ≡ 0x43 → c.width ≡ get_or f.content.now 0 0 → c.span ≡ 1
+    → c.lines.now ≡ take (length f.content.now - 1) (drop 1 f.content.now) → (x : FlatCell) → read_cell (whole_of f) ≡ some x → CellIs c x
+plain_cell f c e w n ls x r =
+    let t = f.content.now in
+    let p = some_of (CellParts t 1 1) (read_cell (whole_of f)) x r (c_parts f.letter t e) in
+    record {
+      width_is = p.width_is ∙ sym w;
+      span_is = p.span_is ∙ sym n;
+      spans = ap is_span n ∙ p.spans;
+      lines_in = record { reads = ap (λ (b : List ℕ). read_all read_line (raws b)) (ls ∙ behind 1 t) ∙ p.lines_are };
+    }
 
--- A C FIELD THAT IS FOUND.
-c_there : (s : List ℕ) (at l st nx : ℕ) (cs : List Cell) → field_at at (drop at s) ≡ At l st nx → l ≡ 0x43 → CellsFrom s at cs
-    → (st + 1 ≤ nx) × FirstCell s (get_or s st 0) 1 (st + 1) nx cs
-c_there s at l st nx cs e k g =
-    let f = field_is s at l st nx (found_at s at l st nx e).low e in
-    let t = part st nx s in
-    let x = read_first read_cell (whole l t) (raws (drop nx s)) cs (rw f.fields at g.reads) in
-    there s l st nx 1 1 cs (omega arith) f.order f.inside x (some_of (Parts t 1 1) (read_cell (whole l t)) x.one x.first (c_parts l t k))
+-- A K FIELD.
+pub spanning_cell : (f : Field) (c : Cell) → (f.letter ≡ 0x43 → ⊥) → c.width ≡ get_or f.content.now 0 0 → c.span ≡ get_or f.content.now 1 0
+    → c.lines.now ≡ take (length f.content.now - 2) (drop 2 f.content.now) → (x : FlatCell) → read_cell (whole_of f) ≡ some x → CellIs c x
+spanning_cell f c e w n ls x r =
+    let t = f.content.now in
+    let p = some_of (CellParts t 2 (get_or t 1 0)) (read_cell (whole_of f)) x r (k_parts f.letter t e) in
+    record {
+      width_is = p.width_is ∙ sym w;
+      span_is = p.span_is ∙ sym n;
+      spans = ap is_span n ∙ p.spans;
+      lines_in = record { reads = ap (λ (b : List ℕ). read_all read_line (raws b)) (ls ∙ behind 2 t) ∙ p.lines_are };
+    }
 
--- ANOTHER FIELD AMONG CELLS IS A K.
-k_there : (s : List ℕ) (at l st nx : ℕ) (cs : List Cell) → field_at at (drop at s) ≡ At l st nx → (l ≡ 0x43 → ⊥) → CellsFrom s at cs
-    → (st + 2 ≤ nx) × FirstCell s (get_or s st 0) (get_or (part st nx s) 1 0) (st + 2) nx cs
-k_there s at l st nx cs e k g =
-    let f = field_is s at l st nx (found_at s at l st nx e).low e in
-    let t = part st nx s in
-    let x = read_first read_cell (whole l t) (raws (drop nx s)) cs (rw f.fields at g.reads) in
-    there s l st nx 2 (get_or t 1 0) cs (omega arith) f.order f.inside x (some_of (Parts t 2 (get_or t 1 0)) (read_cell (whole l t)) x.one x.first (k_parts l t k))
+-- Fields that are too short are no cells.
+pub short_cell : (f : Field) → (f.letter ≡ 0x43 → ⊥) → length f.content.now < 2 → (x : FlatCell) → read_cell (whole_of f) ≡ some x → ⊥
+short_cell f e h x r =
+    let t = f.content.now in
+    let p = some_of (CellParts t 2 (get_or t 1 0)) (read_cell (whole_of f)) x r (k_parts f.letter t e) in
+    omega (arith, p.room)
 
-pub c_found : (s : List ℕ) (at l st nx w : ℕ) → field_at at (drop at s) ≡ At l st nx → l ≡ 0x43 → w ≡ get_or s st 0
-    → (cs : List Cell) → CellsFrom s at cs → FirstCell s w 1 (st + 1) nx cs
-c_found s at l st nx w e k p cs g = rw p (c_there s at l st nx cs e k g).1
-
-pub k_found : (s : List ℕ) (at l st nx w n : ℕ) → field_at at (drop at s) ≡ At l st nx → (l ≡ 0x43 → ⊥) → w ≡ get_or s st 0 → n ≡ get_or s (st + 1) 0
-    → (cs : List Cell) → CellsFrom s at cs → FirstCell s w n (st + 2) nx cs
-k_found s at l st nx w n e k p q cs g =
-    let r = k_there s at l st nx cs e k g in
-    let b : get_or (part st nx s) 1 0 ≡ get_or s (st + 1) 0 = get_or-take (nx - st) (drop st s) 1 0 (omega (arith, r.0)) ∙ get_or-drop st s 1 0 in
-    rw (p, q, ← b) r.1
-
--- Fields that are too short stand not among cells.
-pub empty_found : (s : List ℕ) (at l st nx : ℕ) → field_at at (drop at s) ≡ At l st nx → nx - st < 1 → (cs : List Cell) → CellsFrom s at cs → cs ≡ []
-empty_found s at l st nx e h cs g = go (eqb l 0x43) refl
+pub no_cell : (f : Field) → length f.content.now < 1 → (x : FlatCell) → read_cell (whole_of f) ≡ some x → ⊥
+no_cell f h x r = go (eqb f.letter 0x43) refl
   where
-    go : (b : Bool) → eqb l 0x43 ≡ b → cs ≡ []
-    go true k = absurd (omega (arith, (c_there s at l st nx cs e (eqb-true l 0x43 k) g).0))
-    go false k = absurd (omega (arith, (k_there s at l st nx cs e (eqb-false l 0x43 k) g).0))
+    go : (b : Bool) → eqb f.letter 0x43 ≡ b → ⊥
+    go true k = omega (arith, (some_of (CellParts f.content.now 1 1) (read_cell (whole_of f)) x r (c_parts f.letter f.content.now (eqb-true f.letter 0x43 k))).room)
+    go false k = short_cell f (eqb-false f.letter 0x43 k) (omega arith) x r
 
-pub short_found : (s : List ℕ) (at l st nx : ℕ) → field_at at (drop at s) ≡ At l st nx → (l ≡ 0x43 → ⊥) → nx - st < 2 → (cs : List Cell) → CellsFrom s at cs → cs ≡ []
-short_found s at l st nx e k h cs g = absurd (omega (arith, (k_there s at l st nx cs e k g).0))
+-- ---- a V field
 
-pub broken_found : (s : List ℕ) (at : ℕ) → field_at at (drop at s) ≡ Broken → (cs : List Cell) → CellsFrom s at cs → cs ≡ []
-unfolding read_cell read_all
-broken_found s at e cs g = absurd (let z : none ≡ some cs = rw (field_broken s at e) at g.reads in let y : ◌≡◌ {A = ℕ} 0 1 = cc in omega arith)
+-- the parts of a V field's content
+record HangingParts (t : List ℕ) (v : Hanging) : Type 0 where
+  four : 4 ≤ length t
+  pos_is : v.pos ≡ get_or t 0 0 * 256 + get_or t 1 0
+  width_is : v.width ≡ get_or t 2 0
+  rows_is : v.rows ≡ get_or t 3 0
+  spans : is_span v.rows ≡ true
+  lines_are : read_all read_line (raws (drop 4 t)) ≡ some v.lines
 
-pub end_found : (s : List ℕ) (at : ℕ) → field_at at (drop at s) ≡ End → (cs : List Cell) → CellsFrom s at cs → cs ≡ []
-end_found s at e cs g = read_none read_cell cs (rw (field_end s at e) at g.reads)
+parts_of : (p q w r : ℕ) (ls : List ℕ) → is_span r ≡ true → (o : Option (List RenderLine)) → read_all read_line (raws ls) ≡ o
+    → OnSome (HangingParts (p ∷ q ∷ w ∷ r ∷ ls)) (map (hanging (p * 256 + q) w r) o)
+parts_of p q w r ls i none e = tt
+parts_of p q w r ls i (some l) e = record { four = omega arith; pos_is = refl; width_is = refl; rows_is = refl; spans = i; lines_are = e }
+
+content_parts : (t : List ℕ) → OnSome (HangingParts t) (read_hanging_content t)
+content_parts [] = tt
+content_parts (p ∷ []) = tt
+content_parts (p ∷ q ∷ []) = tt
+content_parts (p ∷ q ∷ w ∷ []) = tt
+content_parts (p ∷ q ∷ w ∷ r ∷ ls) =
+    by_if (OnSome (HangingParts (p ∷ q ∷ w ∷ r ∷ ls))) (is_span r) (λ i. parts_of p q w r ls i (read_all read_line (raws ls)) refl) (λ _. tt)
+
+field_parts : (l : ℕ) (t : List ℕ) → OnSome (HangingParts t) (read_hanging (whole l t))
+unfolding read_hanging
+field_parts l t = by_if (OnSome (HangingParts t)) (eqb l 0x56) (λ _. content_parts t) (λ _. tt)
+
+-- A V FIELD.
+pub hanging_cell : (f : Field) (c : HangingCell) → c.pos ≡ get_or f.content.now 0 0 * 256 + get_or f.content.now 1 0 → c.width ≡ get_or f.content.now 2 0
+    → c.rows ≡ get_or f.content.now 3 0 → c.lines.now ≡ take (length f.content.now - 4) (drop 4 f.content.now)
+    → (x : Hanging) → read_hanging (whole_of f) ≡ some x → HangingIs c x
+hanging_cell f c p w n ls x r =
+    let t = f.content.now in
+    let q = some_of (HangingParts t) (read_hanging (whole_of f)) x r (field_parts f.letter t) in
+    record {
+      pos_is = q.pos_is ∙ sym p;
+      width_is = q.width_is ∙ sym w;
+      rows_is = q.rows_is ∙ sym n;
+      spans = ap is_span (n ∙ sym q.rows_is) ∙ q.spans;
+      lines_in = record { reads = ap (λ (b : List ℕ). read_all read_line (raws b)) (ls ∙ behind 4 t) ∙ q.lines_are };
+    }
+
+-- A field that is too short is none.
+pub no_hanging : (f : Field) → length f.content.now < 4 → (x : Hanging) → read_hanging (whole_of f) ≡ some x → ⊥
+no_hanging f h x r = omega (arith, (some_of (HangingParts f.content.now) (read_hanging (whole_of f)) x r (field_parts f.letter f.content.now)).four)
+
+-- ---- the first of some fields
+
+-- nothing is read where no whole field stands first
+none_first : {A : Type 0} (f : Raw → Option A) (bytes : List ℕ) (l : List A) → f broken ≡ none → (0 < length bytes → raws bytes ≡ broken ∷ [])
+    → read_all f (raws bytes) ≡ some l → l ≡ []
+none_first f [] l n h e = read_none f l (rw raws_nil at e)
+none_first f (b ∷ bs) l n h e =
+    let r = read_first f broken [] l (rw (h (omega arith)) at e) in
+    absurd (let z : none ≡ some r.one = sym n ∙ r.first in let y : ◌≡◌ {A = ℕ} 0 1 = cc in omega arith)
+
+pub no_cells_first : (bytes : List ℕ) (cs : List FlatCell) → (0 < length bytes → raws bytes ≡ broken ∷ []) → CellsIn bytes cs → cs ≡ []
+unfolding read_cell
+no_cells_first bytes cs h i = none_first read_cell bytes cs refl h i.reads
+
+pub no_hanging_first : (bytes : List ℕ) (vs : List Hanging) → (0 < length bytes → raws bytes ≡ broken ∷ []) → OverhangIn bytes vs → vs ≡ []
+unfolding read_hanging
+no_hanging_first bytes vs h i = none_first read_hanging bytes vs refl h i.reads
+
+-- or where that field is not one of them
+pub not_cell_first : (bytes rest : List ℕ) (w : Raw) → raws bytes ≡ w ∷ raws rest → ((x : FlatCell) → read_cell w ≡ some x → ⊥)
+    → (cs : List FlatCell) → CellsIn bytes cs → cs ≡ []
+not_cell_first bytes rest w e none_of cs i =
+    let r = read_first read_cell w (raws rest) cs (rw e at i.reads) in
+    absurd (none_of r.one r.first)
+
+pub not_hanging_first : (bytes rest : List ℕ) (w : Raw) → raws bytes ≡ w ∷ raws rest → ((x : Hanging) → read_hanging w ≡ some x → ⊥)
+    → (vs : List Hanging) → OverhangIn bytes vs → vs ≡ []
+not_hanging_first bytes rest w e none_of vs i =
+    let r = read_first read_hanging w (raws rest) vs (rw e at i.reads) in
+    absurd (none_of r.one r.first)
+
+-- A V FIELD AND THE OTHERS.
+pub first_hanging : (bytes : List ℕ) (rest : Bor (List ℕ)) (w : Raw) (c : HangingCell) (seat : Seat) → raws bytes ≡ w ∷ raws rest.now
+    → ((x : Hanging) → read_hanging w ≡ some x → HangingIs c x) → SeatOfHanging c seat
+    → (vs : List Hanging) → OverhangIn bytes vs → all readable_hanging vs ≡ true → FirstHanging (seat, rest) vs
+unfolding all
+first_hanging bytes rest w c seat e finds s vs i h =
+    let r = read_first read_hanging w (raws rest.now) vs (rw e at i.reads) in
+    let x = finds r.one r.first in
+    record {
+      one = r.one;
+      more = r.more;
+      are = r.are;
+      seat_is =
+          record {
+            pos_is = x.pos_is ∙ sym s.pos_is;
+            width_is = x.width_is ∙ sym s.width_is;
+            to_is = sym s.to_is;
+            span_is = x.rows_is ∙ sym s.span_is;
+            spans = rw s.span_is x.spans;
+            lines_in = rw s.lines_are x.lines_in;
+            readable = and_left (readable_hanging r.one) (all readable_hanging r.more) (rw r.are at h);
+          };
+      rest_in = record { reads = r.later };
+    }

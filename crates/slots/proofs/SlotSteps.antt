@@ -1,216 +1,154 @@
 -- What each step of a walk over the seats of a row has to show at its returns.
 -- Assumes nothing.
-use mathlib.Core.Path.{◌≡◌, refl, sym, ap, subst, ◌∙◌}
-use mathlib.Core.List.{List, []}
-use mathlib.Core.Bool.{true}
-use Prim.Native.Nat.{ℕ, ◌+◌, ◌*◌, ◌≤◌, ◌<◌}
-use native.Mathlib.Omega.{arith}
-use lib.Dec.{ltb}
-use lib.ListN.{length}
-use borrow.Author.Tests.{lt-ltb, le-ltb}
-use Rattle.characters.proofs.Tests.{by_if, and_left}
-use Rattle.fields.specs.Field.{all}
-use Rattle.fields.specs.Places.{CellsFrom, HungFrom}
-use Rattle.fields.specs.Spans.{Cell, Hanging, readable_hanging}
+use Rattle.std.proofs.Common.{◌≡◌, ℕ, ◌+◌, ◌≤◌, ◌<◌, true, false, List, [], ◌∷◌, length, refl, sym, ap, subst, ◌∙◌, arith, Bor}
+use Rattle.std.specs.Prelude.{Option, Some, None, MatchOption}
+use mathlib.Core.Option as opt
+use mathlib.Core.Logic.{⊎_elim}
+use Rattle.characters.proofs.Tests.{lt_or_le}
+use Rattle.std.specs.Option.{is_some}
+use Rattle.fields.specs.Field.{Raw, broken, raws}
+use Rattle.fields.specs.Spans.{Cell as FlatCell, read_cell}
 use Rattle.rows.specs.Columns.{Slot}
-use Rattle.slots.specs.declared.cell.Laid.TheVariants.{Lies, NoCell}
-use Rattle.slots.specs.declared.hung.Hung.TheVariants.{Hangs}
-use Rattle.slots.specs.declared.hung.Hung.TheVariants as hung-variants
 use Rattle.slots.specs.declared.seat.Seat.{Seat}
-use Rattle.slots.specs.declared.seat.Slots.{Slots}
-use Rattle.slots.specs.declared.seat.Next.{Next}
-use Rattle.slots.specs.declared.seat.Next.TheVariants.{NoMore}
-use Rattle.slots.specs.Cell.{CellIn, FindsCell}
-use Rattle.slots.specs.Hung.{FirstHung, HungIn, FindsHung}
-use Rattle.slots.specs.Seats.{SeatIn, SlotsIn, slots_measure, SlotsLeft, NextIn, FindsNext, hung_seat, queue_of, laid_of, total_of, reach_of, gap_seat, behind_of, instead_of, given_of, Brought, BringsIn, Brings, HungSeat}
-use Rattle.slots.proofs.Laws.{hung_past}
-use Rattle.slots.proofs.SlotLaws.{brought, brought_none, brought_full, brought_ready, stands_none, stands_before, passes, put_instead, put_behind, at_last}
-use Rattle.slots.proofs.SlotBounds.{laid_in, passed_in, total_in, behind_in, instead_in}
+use Rattle.slots.specs.declared.iter.Slots.{Slots}
+use Rattle.fields.specs.Field.{all}
+use Rattle.fields.specs.Spans.{Hanging, readable_hanging}
+use Rattle.fields.specs.Places.{OverhangIn}
+use Rattle.slots.specs.Seat.{FillingSeat, FirstHanging}
+use Rattle.slots.specs.Iter.{there, slots_measure, SlotsLeft, FirstSlot, NextSlot, Brought, Brings, FrontGiven, Gives, PutsBehind}
+use Rattle.slots.proofs.CellLaws.{no_cells_first, not_cell_first}
+use Rattle.slots.proofs.SlotLaws.{no_cells, Stands, stands_none, stands_before, passes, put_instead, put_behind, all_given}
 
 -- ---- `bring`
 
-keeps_in : (cells : List ℕ) (st : Slots) → BringsIn cells st st
-keeps_in cells st sheet i = (i, omega arith)
+-- a front that is there is not none
+there_not_none : (front : Option Seat) → true ≡ is_some front → front ≡ None → ⊥
+there_not_none None e h = absurd (let y : ◌≡◌ {A = ℕ} 0 1 = cc in omega arith)
+there_not_none (Some s) e h = absurd (let y : ◌≡◌ {A = ℕ} 0 1 = cc in omega arith)
 
-pub bring_ready : (cells : List ℕ) (st : Slots) → (st.ready ≡ 0 → ⊥) → BringsIn cells st st × Brings cells st st
-bring_ready cells st h = (keeps_in cells st, λ sheet left total l. brought_ready cells sheet st left total h l)
+pub bring_ready : (st : Slots) → true ≡ is_some st.front → Brings st st
+bring_ready st e = record { measure = omega arith; brings = λ left total l. (l, λ n. absurd (there_not_none st.front e n)) }
 
-pub bring_full : (cells : List ℕ) (st : Slots) → 4096 ≤ st.pos → BringsIn cells st st × Brings cells st st
-bring_full cells st h = (keeps_in cells st, λ sheet left total l. brought_full cells sheet st left total h l)
+pub bring_full : (st : Slots) → 4096 ≤ st.pos → Brings st st
+bring_full st h = record { measure = omega arith; brings = λ left total l. (l, λ _. no_cells l.cs st.pos h l.few) }
 
-pub bring_none : (cells : List ℕ) (st : Slots) → FindsCell cells st.cell NoCell → BringsIn cells st st × Brings cells st st
-bring_none cells st h = (keeps_in cells st, λ sheet left total l. brought_none cells sheet st left total h l)
+pub bring_none : (st : Slots) → (0 < length st.cells.now → raws st.cells.now ≡ broken ∷ []) → Brings st st
+bring_none st h = record { measure = omega arith; brings = λ left total l. (l, λ _. no_cells_first st.cells.now l.cs h l.cs_are) }
 
-pub bring_laid : (cells : List ℕ) (st r : Slots) (w n start nx : ℕ) → r ≡ laid_of st st.pos w n start nx → st.ready ≡ 0 → st.pos < 4096
-    → CellIn cells st.cell (Lies w n start nx) → FindsCell cells st.cell (Lies w n start nx) → BringsIn cells st r × Brings cells st r
-bring_laid cells st r w n start nx e h k a f =
-    subst (λ (z : Slots). BringsIn cells st z × Brings cells st z) (sym e)
-    (λ sheet i. laid_in cells sheet st w n start nx i h k a, λ sheet left total l. brought cells sheet st w n start nx left total h a.0 f l)
+pub bring_no_cell : (st : Slots) (rest : List ℕ) (w : Raw) → raws st.cells.now ≡ w ∷ raws rest → ((x : FlatCell) → read_cell w ≡ opt.some x → ⊥)
+    → Brings st st
+bring_no_cell st rest w e none_of = record { measure = omega arith; brings = λ left total l. (l, λ _. not_cell_first st.cells.now rest w e none_of l.cs l.cs_are) }
 
--- ---- `behind`
+-- none is there
+pub none_there : (front : Option Seat) → false ≡ is_some front → front ≡ None
+none_there None e = refl
+none_there (Some s) e = absurd (let y : ◌≡◌ {A = ℕ} 0 1 = cc in omega arith)
 
-pub behind_gap : (st : Slots) (v : Seat) (hung old total : ℕ) (r : Slots) → old ≡ total_of st → total ≡ reach_of old v.pos v.width → st.next < v.pos
-    → r ≡ queue_of st hung total 2 (gap_seat st.next v.pos) v → r ≡ behind_of st v hung
-behind_gap st v hung old total r e f h g =
-    let t : total ≡ reach_of (total_of st) v.pos v.width = f ∙ ap (λ (z : ℕ). reach_of z v.pos v.width) e in
-    rw (lt-ltb st.next v.pos h) (g ∙ ap (λ (z : ℕ). queue_of st hung z 2 (gap_seat st.next v.pos) v) t)
+-- what is there is not none
+pub some_none : {P : Type 0} (s : Seat) → ◌≡◌ {A = Option Seat} (Some s) None → P
+some_none s e = absurd (there_not_none (Some s) refl e)
 
-pub behind_near : (st : Slots) (v : Seat) (hung old total : ℕ) (r : Slots) → old ≡ total_of st → total ≡ reach_of old v.pos v.width → v.pos ≤ st.next
-    → r ≡ queue_of st hung total 1 v v → r ≡ behind_of st v hung
-behind_near st v hung old total r e f h g =
-    let t : total ≡ reach_of (total_of st) v.pos v.width = f ∙ ap (λ (z : ℕ). reach_of z v.pos v.width) e in
-    rw (le-ltb st.next v.pos h) (g ∙ ap (λ (z : ℕ). queue_of st hung z 1 v v) t)
+-- ---- `next`
 
--- ---- a V field that is met
+-- what is ahead of a walk is what was ahead at first, with a seat ready if C or K fields are left
+pub record Walked (st ahead : Slots) : Type 0 where
+  pub less : slots_measure ahead ≤ slots_measure st
+  pub same : (left : List Slot) (total : ℕ) → SlotsLeft st left total → Brought ahead left total
 
--- the first V field that is left, as a seat, and the place of the next one
-pub record Met (cells sheet : List ℕ) (st : Slots) (v : Seat) (hung : ℕ) : Type 0 where
-  pub seat_in : SeatIn cells sheet v
-  pub on : st.hung + 4 ≤ hung
-  pub inside : hung ≤ length sheet
-  pub seat : (vs : List Hanging) → HungFrom sheet st.hung vs → all readable_hanging vs ≡ true → HungSeat cells sheet v hung vs
+pub walk_start : (st ahead : Slots) → Brings st ahead → Walked st ahead
+walk_start st ahead b = record { less = b.measure; same = b.brings }
 
-hung_seat_lem : (cells sheet : List ℕ) (pos w rows start next : ℕ) (vs : List Hanging) → all readable_hanging vs ≡ true → FirstHung sheet pos w rows start next vs
-    → HungSeat cells sheet (hung_seat pos w rows start next) next vs
-unfolding all
-hung_seat_lem cells sheet pos w rows start next vs h f =
+-- what is known of the first V field that is left
+abbrev pub Meets : List ℕ → Seat → Bor (List ℕ) → Type 0
+Meets hanging seat rest = (vs : List Hanging) → OverhangIn hanging vs → all readable_hanging vs ≡ true → FirstHanging (seat, rest) vs
+
+there_is : (o : Option Seat) (front : Seat) (N : Type 0) (S : Seat → Type 0) → o ≡ Some front → MatchOption o N S → S front
+there_is o front N S e m = subst (λ (z : Option Seat). MatchOption z N S) e m
+
+none_is : (o : Option Seat) (N : Type 0) (S : Seat → Type 0) → o ≡ None → MatchOption o N S → N
+none_is o N S e m = subst (λ (z : Option Seat). MatchOption z N S) e m
+
+front_first : (st rest : Slots) (front : Seat) (left : List Slot) (total : ℕ) (l : SlotsLeft st left total) → st.front ≡ Some front → FrontGiven st front rest
+    → Stands front.pos l.vs → FirstSlot front rest left total
+front_first st rest front left total l e g s =
+    let p = passes st.cells.now st.pos st.hanging.now st.next st.total st.front front st.back left total l e s in
     record {
-      one = f.one;
-      more = f.more;
-      are = f.are;
-      seat_is =
-          record {
-            pos_is = f.pos_is;
-            width_is = f.width_is;
-            to_is = refl;
-            span_is = f.rows_is;
-            spans = f.spans;
-            lines_at = f.lines;
-            readable = and_left (readable_hanging f.one) (all readable_hanging f.more) (subst (λ (z : List Hanging). all readable_hanging z ≡ true) f.are h);
-          };
-      goes = f.goes;
+      one = p.one;
+      more = p.more;
+      are = p.are;
+      seat_is = p.seat_is;
+      goes = rw (g.cells_are, g.pos_is, g.hanging_is, g.next_is, g.total_is, g.front_is, g.back_is) p.goes;
     }
 
-hung_in : (cells sheet : List ℕ) (at pos w rows start next : ℕ) → HungIn sheet at (Hangs pos w rows start next)
-    → SeatIn cells sheet (hung_seat pos w rows start next) × (at + 4 ≤ next) × (next ≤ length sheet)
-hung_in cells sheet at pos w rows start next (a, b, d, e, f, g, h) = (
-  record { place = a; reaches = omega arith; fill = omega arith; rows = d; order = f; inside = g; near = h },
-  omega arith,
-  g,
-)
+-- The front stands before a V field.
+pub walk_passes : (st ahead rest : Slots) (front seat : Seat) (others : Bor (List ℕ)) (r : Option Seat) → Walked st ahead → ahead.front ≡ Some front
+    → Meets ahead.hanging.now seat others → front.pos < seat.pos → Gives ahead r rest → NextSlot st r rest
+walk_passes st ahead rest front seat others r w e m h g left total l =
+    let given = there_is ahead.front front (rest ≡ ahead) (λ seat. FrontGiven ahead seat rest) e g.1 in
+    let b = w.same left total l in
+    let f = m b.0.vs b.0.vs_are b.0.vs_readable in
+    rw (g.0 ∙ e) (front_first ahead rest front left total b.0 e given (stands_before front.pos seat f.one f.more b.0.vs f.are f.seat_is.pos_is h))
 
-pub met : (cells sheet : List ℕ) (st : Slots) (pos w rows start next : ℕ) (v : Seat) → v ≡ hung_seat pos w rows start next
-    → HungIn sheet st.hung (Hangs pos w rows start next) → FindsHung sheet st.hung (Hangs pos w rows start next) → Met cells sheet st v next
-met cells sheet st pos w rows start next v e i f =
-    let n = hung_in cells sheet st.hung pos w rows start next i in
-    subst (λ (z : Seat). Met cells sheet st z next) (sym e)
-    (record { seat_in = n.0; on = n.1; inside = n.2; seat = λ vs g h. hung_seat_lem cells sheet pos w rows start next vs h (f vs g) })
+-- No V field is left.
+pub walk_last : (st ahead rest : Slots) (r : Option Seat) → Walked st ahead
+    → ((vs : List Hanging) → OverhangIn ahead.hanging.now vs → all readable_hanging vs ≡ true → vs ≡ []) → Gives ahead r rest → NextSlot st r rest
+walk_last st ahead rest r w m g left total l = go ahead.front refl
+  where
+    b : Brought ahead left total
+    b = w.same left total l
 
--- ---- `next_slot`
+    none : b.0.vs ≡ []
+    none = m b.0.vs b.0.vs_are b.0.vs_readable
 
--- what is ahead of the walk is what was ahead at first, with a seat ready if C or K fields are left
-pub record Walked (cells sheet : List ℕ) (st ahead : Slots) : Type 0 where
-  pub low : SlotsIn cells sheet ahead
-  pub less : slots_measure cells sheet ahead ≤ slots_measure cells sheet st
-  pub same : (left : List Slot) (total : ℕ) → SlotsLeft cells sheet st left total → Brought cells sheet ahead left total
+    go : (f : Option Seat) → ahead.front ≡ f → MatchOption r ((left ≡ []) × SlotsLeft rest [] total) (λ seat. FirstSlot seat rest left total)
+    go None e =
+        let same = none_is ahead.front (rest ≡ ahead) (λ seat. FrontGiven ahead seat rest) e g.1 in
+        let end = all_given ahead.cells.now ahead.pos ahead.hanging.now ahead.next ahead.total ahead.front ahead.back left total b.0 e (b.1 e) none in
+        rw (g.0 ∙ e) (end, subst (λ (z : Slots). SlotsLeft z [] total) (sym same) (subst (λ (z : List Slot). SlotsLeft ahead z total) end b.0))
+    go (Some front) e =
+        let given = there_is ahead.front front (rest ≡ ahead) (λ seat. FrontGiven ahead seat rest) e g.1 in
+        rw (g.0 ∙ e) (front_first ahead rest front left total b.0 e given (stands_none front.pos b.0.vs none))
 
-pub walk_start : (cells sheet : List ℕ) (st on : Slots) → SlotsIn cells sheet st → BringsIn cells st on → Brings cells st on → Walked cells sheet st on
-walk_start cells sheet st on i bi b = let o = bi sheet i in record { low = o.0; less = o.1; same = b sheet }
-
-behind_ready : (st : Slots) (v : Seat) (hung : ℕ) → (behind_of st v hung).ready ≡ 0 → ⊥
-behind_ready st v hung =
-    by_if (λ (z : Slots). z.ready ≡ 0 → ⊥) (ltb st.next v.pos) (λ _ e. absurd (omega (arith, e))) (λ _ e. absurd (omega (arith, e)))
-
--- The V field stands behind all cells.
-pub walk_behind : (cells sheet : List ℕ) (st ahead : Slots) (v : Seat) (hung : ℕ) (r : Slots) → Walked cells sheet st ahead → Met cells sheet ahead v hung → ahead.ready ≡ 0
-    → r ≡ behind_of ahead v hung → Walked cells sheet st r × (slots_measure cells sheet r < slots_measure cells sheet ahead)
-walk_behind cells sheet st ahead v hung r w m h e =
-    let i = behind_in cells sheet ahead v hung w.low m.seat_in m.on m.inside in
-    subst (λ (z : Slots). Walked cells sheet st z × (slots_measure cells sheet z < slots_measure cells sheet ahead)) (sym e) (
-      record {
-        low = i.0;
-        less = omega (arith, w.less, i.1);
-        same =
-            λ left total l.
-            let b = w.same left total l in
-            let s = m.seat b.ahead.vs b.ahead.vs_are b.ahead.vs_readable in
-            brought_ready cells sheet (behind_of ahead v hung) left total (behind_ready ahead v hung) (put_behind cells sheet ahead v hung left total b s h);
-      },
-      i.1,
-    )
-
--- It takes the place of the front.
-pub walk_instead : (cells sheet : List ℕ) (st ahead : Slots) (v : Seat) (hung : ℕ) (r : Slots) → Walked cells sheet st ahead → Met cells sheet ahead v hung
-    → (ahead.ready ≡ 0 → ⊥) → v.pos ≤ ahead.front.pos → r ≡ instead_of ahead v hung
-    → Walked cells sheet st r × (slots_measure cells sheet r < slots_measure cells sheet ahead)
-walk_instead cells sheet st ahead v hung r w m h k e =
-    let i = instead_in cells sheet ahead v hung w.low m.seat_in m.on m.inside in
-    subst (λ (z : Slots). Walked cells sheet st z × (slots_measure cells sheet z < slots_measure cells sheet ahead)) (sym e) (
-      record {
-        low = i.0;
-        less = omega (arith, w.less, i.1);
-        same =
-            λ left total l.
-            let b = w.same left total l in
-            let s = m.seat b.ahead.vs b.ahead.vs_are b.ahead.vs_readable in
-            brought_ready cells sheet (instead_of ahead v hung) left total h (put_instead cells sheet ahead v hung left total b.ahead s h k);
-      },
-      i.1,
-    )
-
-front_in : (cells sheet : List ℕ) (st ahead : Slots) → Walked cells sheet st ahead → (ahead.ready ≡ 0 → ⊥) → NextIn cells sheet st (given_of ahead)
-front_in cells sheet st ahead w h =
-    let f = passed_in cells sheet ahead w.low h in
-    record { seat_in = f.seat_in; rest_in = f.rest_in; less = omega (arith, w.less, f.less) }
-
--- The front stands before it.
-pub walk_passes : (cells sheet : List ℕ) (st ahead : Slots) (v : Seat) (hung : ℕ) (r : Next) → Walked cells sheet st ahead → Met cells sheet ahead v hung
-    → (ahead.ready ≡ 0 → ⊥) → ahead.front.pos < v.pos → r ≡ given_of ahead → NextIn cells sheet st r × FindsNext cells sheet st r
-walk_passes cells sheet st ahead v hung r w m h k e =
-    subst (λ (z : Next). NextIn cells sheet st z × FindsNext cells sheet st z) (sym e) (
-      front_in cells sheet st ahead w h,
-      λ left total l.
+-- A V field takes the place of the front.
+pub walk_instead : (st ahead r : Slots) (front seat : Seat) (others : Bor (List ℕ)) → Walked st ahead → ahead.front ≡ Some front
+    → 3 + length others.now ≤ length ahead.hanging.now → Meets ahead.hanging.now seat others → seat.pos ≤ front.pos
+    → r.cells.now ≡ ahead.cells.now → r.pos ≡ ahead.pos → r.hanging.now ≡ others.now → r.next ≡ ahead.next → r.total ≡ ahead.total
+    → r.front ≡ Some seat → r.back ≡ ahead.back → Walked st r
+walk_instead st ahead r front seat others w e n m h a1 a2 a3 a4 a5 a6 a7 =
+    record {
+      less = omega (arith, w.less, n, ap length a1, ap length a3, ap there a6, ap there a7, ap there e);
+      same =
+          λ left total l.
           let b = w.same left total l in
-          let s = m.seat b.ahead.vs b.ahead.vs_are b.ahead.vs_readable in
-          passes cells sheet ahead left total b.ahead h (stands_before cells sheet ahead.front.pos v hung b.ahead.vs s k),
-    )
+          let f = m b.0.vs b.0.vs_are b.0.vs_readable in (
+            rw (a1, a2, a3, a4, a5, a6, a7)
+                (put_instead ahead.cells.now ahead.pos ahead.hanging.now others.now ahead.next ahead.total ahead.front front ahead.back seat left total b.0 e f.one f.more f.are f.seat_is
+                f.rest_in h),
+            λ z. some_none seat (sym a6 ∙ z),
+          );
+    }
 
--- No V field is left: the front is the next seat.
-pub walk_last : (cells sheet : List ℕ) (st ahead : Slots) (r : Next) → Walked cells sheet st ahead → FindsHung sheet ahead.hung hung-variants.NoMore
-    → (ahead.ready ≡ 0 → ⊥) → r ≡ given_of ahead → NextIn cells sheet st r × FindsNext cells sheet st r
-walk_last cells sheet st ahead r w f h e =
-    subst (λ (z : Next). NextIn cells sheet st z × FindsNext cells sheet st z) (sym e) (
-      front_in cells sheet st ahead w h,
-      λ left total l.
+one_there : (o : Option Seat) → there o ≤ 1
+one_there None = omega arith
+one_there (Some s) = omega arith
+
+behind_there : (ahead p : Slots) (seat : Seat) (rest : List ℕ) → PutsBehind ahead seat rest p → p.front ≡ None → ⊥
+behind_there ahead p seat rest h e =
+    ⊎_elim (λ lt. none_is p.front ⊥ (FillingSeat ahead.next seat.pos) e (h.with_room lt).0) (λ le. some_none seat (sym (h.at_once le).0 ∙ e)) (lt_or_le ahead.next seat.pos)
+
+-- It stands behind all cells.
+pub walk_behind : (st ahead r : Slots) (seat : Seat) (others : Bor (List ℕ)) → Walked st ahead → ahead.front ≡ None
+    → 3 + length others.now ≤ length ahead.hanging.now → Meets ahead.hanging.now seat others → PutsBehind ahead seat others.now r → Walked st r
+walk_behind st ahead r seat others w e n m h =
+    record {
+      less = omega (arith, w.less, n, ap length h.cells_are, ap length h.hanging_is, one_there r.front, one_there r.back);
+      same =
+          λ left total l.
           let b = w.same left total l in
-          passes cells sheet ahead left total b.ahead h (stands_none ahead.front.pos b.ahead.vs (f b.ahead.vs b.ahead.vs_are)),
-    )
-
--- Nothing is left.
-pub walk_end_lem : (cells sheet : List ℕ) (st ahead : Slots) (t : ℕ) → Walked cells sheet st ahead → FindsHung sheet ahead.hung hung-variants.NoMore → ahead.ready ≡ 0
-    → t ≡ total_of ahead → NextIn cells sheet st (NoMore t) × FindsNext cells sheet st (NoMore t)
-walk_end_lem cells sheet st ahead t w f h e =
-    subst (λ (z : ℕ). NextIn cells sheet st (NoMore z) × FindsNext cells sheet st (NoMore z)) (sym e) (
-      total_in cells sheet ahead w.low,
-      λ left total l. let b = w.same left total l in at_last cells sheet ahead left total b (f b.ahead.vs b.ahead.vs_are) h,
-    )
-
--- ---- where no V field is left
-
--- The next C or K field is the next seat.
-pub cell_next : (cells sheet : List ℕ) (st : Slots) (w n start nx : ℕ) → SlotsIn cells sheet st → st.ready ≡ 0 → length sheet ≤ st.hung → st.pos < 4096
-    → CellIn cells st.cell (Lies w n start nx) → FindsCell cells st.cell (Lies w n start nx)
-    → NextIn cells sheet st (given_of (laid_of st st.pos w n start nx)) × FindsNext cells sheet st (given_of (laid_of st st.pos w n start nx))
-cell_next cells sheet st w n start nx i h k low a f =
-    let on = laid_of st st.pos w n start nx in
-    let b = bring_laid cells st on w n start nx refl h low a f in
-    walk_last cells sheet st on (given_of on) (walk_start cells sheet st on i b.0 b.1) (λ vs g. hung_past sheet st.hung vs k g) (λ z. absurd (omega (arith, z))) refl
-
--- With no C or K field there is none.
-pub cell_end : (cells sheet : List ℕ) (st : Slots) (t : ℕ) → t ≡ total_of st → SlotsIn cells sheet st → st.ready ≡ 0 → length sheet ≤ st.hung
-    → ((cs : List Cell) → CellsFrom cells st.cell cs → st.pos + 256 * length cs ≤ 4096 → cs ≡ [])
-    → NextIn cells sheet st (NoMore t) × FindsNext cells sheet st (NoMore t)
-cell_end cells sheet st t e i h k none =
-    walk_end_lem cells sheet st st t
-    (walk_start cells sheet st st i (keeps_in cells st) (λ bytes left total x. record { ahead = x; last = λ _. none x.cs x.cs_are x.few }))
-    (λ vs g. hung_past sheet st.hung vs k g) h e
+          let f = m b.0.vs b.0.vs_are b.0.vs_readable in (
+            rw (h.cells_are, h.pos_is, h.hanging_is, h.next_is, h.total_is)
+                (put_behind ahead.cells.now ahead.pos ahead.hanging.now others.now ahead.next ahead.total seat ahead.front ahead.back r.front r.back left total b.0 e f.one f.more f.are
+                (b.1 e) f.seat_is f.rest_in h.with_room h.at_once),
+            λ z. absurd (behind_there ahead r seat others.now h z),
+          );
+    }

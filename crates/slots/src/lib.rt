@@ -2,5 +2,6 @@
 #![tactic(auto)]
 
 pub mod cell;
-pub mod hung;
+pub mod hanging;
+pub mod iter;
 pub mod seat;

@@ -2,33 +2,31 @@
 -- Assumes nothing.
 use mathlib.Core.Path.{◌≡◌, refl, sym, ap, ap₂, ◌∙◌}
 use mathlib.Core.Bool.{Bool, true, false}
-use mathlib.Core.Logic.{◌⊎◌, inl, inr}
 use mathlib.Core.Option.{none, some}
 use mathlib.Core.List.{List, [], ◌∷◌, ◌++◌, append-nil, append_assoc}
 use Prim.Native.Nat.{ℕ, ◌+◌, ◌-◌, ◌*◌, ◌≤◌, ◌<◌}
 use native.Mathlib.Omega.{arith}
 use lib.Dec.{eqb}
-use lib.ListN.{length, take, drop, get_or, length-drop, length-append}
-use lib.Seq.{sets, length-take-le}
-use borrow.Author.Tests.{eqb-true, eqb-false, eq-eqb, ne_eqb}
+use lib.ListN.{length, take, drop, get_or, length-append}
+use lib.Seq.{sets}
+use borrow.Author.Tests.{eqb-true, eq-eqb, ne_eqb}
 use Rattle.std.specs.Prelude.{if◌then◌else◌}
 use Rattle.characters.proofs.Tests.{and_left, and_right}
-use Rattle.fields.specs.Field.{field, field_at, whole, broken, raws, read_all, all}
+use Rattle.fields.specs.Field.{field, Raw, whole, broken, raws, read_all, all}
 use Rattle.fields.specs.Sheet.{Piece, str, fragment, read_str, read_piece, readable_piece, piece_bytes, pieces_bytes}
 use Rattle.fields.specs.Store.{Wrote}
 use Rattle.fields.specs.Widths.{text_width, piece_width, width}
 use Rattle.fields.proofs.Texts.{rest}
-use Rattle.fields.proofs.Readings.{read_first}
-use Rattle.fields.proofs.Fields.{FieldIs, field_is, field_broken, field_end}
-use Rattle.fields.specs.declared.field.Field.{Field}
-use Rattle.fields.specs.declared.field.Field.TheVariants.{At, Broken, End}
-use Rattle.fields.proofs.Back.{every_append}
-use Rattle.fields.proofs.Sets.{sets_append, wrote_then, wrote_none}
+use Rattle.fields.proofs.Readings.{read_first, read_none}
+use Rattle.fields.proofs.Sizes.{raws_size, raws_bytes}
+use Rattle.fields.proofs.Back.{every_append, Every}
+use Rattle.fields.proofs.Sets.{sets_append}
 use Rattle.fields.specs.Text.{WellFormed}
 use Rattle.fields.specs.TaggedLine.{WellFormedPiece, join, push, add_piece, add_pieces}
 use Rattle.rows.proofs.Lines.{line_width_append, readable_formed}
+use Rattle.rows.proofs.Reading.{every_from}
 use Rattle.tagged_line.specs.Held.{Within, LineGrown, Held, Pushes}
-use Rattle.tagged_line.specs.Pieces.{PiecesOf, AddsFragment, AddsTextPiece, AddsPiece, AddsPieces, Copies}
+use Rattle.tagged_line.specs.Pieces.{AddsFragment, AddsTextPiece, AddsPiece, AddsPieces}
 use Rattle.tagged_line.specs.declared.line.Line.{Line}
 use Rattle.tagged_line.proofs.Holding.{pieces_append}
 
@@ -88,18 +86,18 @@ read_str_lem [] q e = absurd (let z : ◌≡◌ {A = ℕ} 0 1 = cc in omega arit
 read_str_lem (a ∷ []) q e = absurd (let z : ◌≡◌ {A = ℕ} 0 1 = cc in omega arith)
 read_str_lem (a ∷ b ∷ t) q e = let k : q ≡ str a (b ∷ t) = cc in (omega arith, k, ap piece_bytes k)
 
--- the size of the text in it
-pub tail_size : (t : List ℕ) → length (take (length t - 1) (drop 1 t)) ≡ length t - 1
-tail_size t = ap length (rest t 1) ∙ length-drop 1 t
-
 -- What is too short holds no text.
 pub laid_short : (out : List ℕ) (p : Line) (t : List ℕ) (joins : Bool) → length t < 2 → AddsTextPiece out p t joins out p
 laid_short out p t joins k q e r st l h = absurd (omega (arith, (read_str_lem t q e).0))
 
--- text that passes refusal 3 is well-formed
-formed : (q : Piece) → readable_piece q ≡ true → WellFormedPiece q
+-- A piece that passes refusal 3 is well-formed.
+pub formed : (q : Piece) → readable_piece q ≡ true → WellFormedPiece q
 formed (str a t) e = readable_formed false t e
 formed (fragment n) e = tt
+
+-- So are pieces that do.
+pub all_formed : (ps : List Piece) → all readable_piece ps ≡ true → Every WellFormedPiece ps
+all_formed ps e = every_from WellFormedPiece readable_piece formed ps e
 
 -- A text, pushed.
 pub laid_joined : (out out' : List ℕ) (p r : Line) (t : List ℕ) (joins : Bool) (c : ℕ) → joins ≡ true
@@ -134,7 +132,7 @@ laid_apart out out' p end t joins c ej ec w q e ok st l h =
 
 -- An S field.
 pub laid_text : (out out' : List ℕ) (p r : Line) (letter : ℕ) (t : List ℕ) (joins : Bool) → letter ≡ 0x53
-    → AddsTextPiece out p t joins out' r → AddsPiece out p letter t joins out' r
+    → AddsTextPiece out p t joins out' r → AddsPiece out p (whole letter t) joins out' r
 unfolding read_piece
 laid_text out out' p r letter t joins el f q e ok st l h = f q (rw (eq-eqb letter 0x53 el) at e) ok st l h
 
@@ -156,119 +154,10 @@ add_name false l n = refl
 
 -- An F field.
 pub laid_name : (out out' : List ℕ) (p r : Line) (letter : ℕ) (t : List ℕ) (joins : Bool) → (letter ≡ 0x53 → ⊥)
-    → AddsFragment out p t out' r → AddsPiece out p letter t joins out' r
+    → AddsFragment out p t out' r → AddsPiece out p (whole letter t) joins out' r
 laid_name out out' p r letter t joins d f q e ok st l h = rw ((read_name_lem letter t q d e).0, add_name joins l t) (f st l h)
 
--- a piece that was read is written as the field that it was read from
-read_written : (letter : ℕ) (t : List ℕ) (q : Piece) → read_piece (whole letter t) ≡ some q → piece_bytes q ≡ field letter t
-unfolding read_piece
-read_written letter t q e = go (eqb letter 0x53) refl
-  where
-    go : (b : Bool) → eqb letter 0x53 ≡ b → piece_bytes q ≡ field letter t
-    go true k =
-        let el = eqb-true letter 0x53 k in
-        rw el (read_str_lem t q (rw k at e)).2
-    go false k =
-        let (eq, el) = read_name_lem letter t q (eqb-false letter 0x53 k) e in
-        rw (eq, el)
-
--- ---- the pieces of a content, field by field
-
--- the piece that a field holds, and the pieces after it
-record Next (letter : ℕ) (t after : List ℕ) (ps : List Piece) : Type 0 where
-  one : Piece
-  others : List Piece
-  piece : read_piece (whole letter t) ≡ some one
-  later : PiecesOf after others
-  all : ps ≡ one ∷ others
-
-module _ (s : List ℕ) (at : ℕ) (ps : List Piece) (e : PiecesOf (drop at s) ps) where
-  next : (letter start past : ℕ) → FieldIs s at letter start past → Next letter (take (past - start) (drop start s)) (drop past s) ps
-  next letter start past f =
-      let x = read_first read_piece (whole letter (take (past - start) (drop start s))) (raws (drop past s)) ps (sym (ap (read_all read_piece) f.fields) ∙ e) in
-      record { one = x.one; others = x.more; piece = x.first; later = x.later; all = x.are }
-
-  -- no content that was read ends in a rest that is no field
-  none_broken : raws (drop at s) ≡ broken ∷ [] → ⊥
-  unfolding read_all read_piece
-  none_broken b = let k : none ≡ some ps = sym (ap (read_all read_piece) b) ∙ e in let z : ◌≡◌ {A = ℕ} 0 1 = cc in omega arith
-
-  -- past the last field there is no piece
-  none_left : raws (drop at s) ≡ [] → ps ≡ []
-  unfolding read_all
-  none_left b = let k : some [] ≡ some ps = sym (ap (read_all read_piece) b) ∙ e in cc
-
--- the field that was found at a place
-pub found : (s : List ℕ) {at letter start past : ℕ} {f : Field} → at ≤ length s → f ≡ field_at at (drop at s) → f ≡ At letter start past
-    → FieldIs s at letter start past
-found s {at} {letter} {start} {past} h e k = field_is s at letter start past h (sym e ∙ k)
-
--- where no field was found, a rest that is none is left, or nothing
-abbrev pub Ended : List ℕ → Type 0
-Ended rest = (raws rest ≡ broken ∷ []) ⊎ (raws rest ≡ [])
-
-pub ended : (s : List ℕ) (at : ℕ) (f : Field) → f ≡ field_at at (drop at s) → ((l st nx : ℕ) → f ≡ At l st nx → ⊥) → Ended (drop at s)
-ended s at (At l st nx) e d = absurd (d l st nx refl)
-ended s at Broken e d = inl (field_broken s at (sym e))
-ended s at End e d = inr (field_end s at (sym e))
-
--- the size of a field's content
-pub content_size : (s : List ℕ) (at letter start past : ℕ) → FieldIs s at letter start past
-    → length (take (past - start) (drop start s)) + start ≡ past
-content_size s at letter start past f =
-    omega (arith, f.order, f.inside, length-drop start s, length-take-le (past - start) (drop start s) (omega (arith, f.order, f.inside, length-drop start s)))
-
--- ---- copying
-
--- the pieces up to a place of the content s are copied
-pub record Copying (out₀ : List ℕ) (place : ℕ) (s out : List ℕ) (to at : ℕ) : Type 0 where
-  pub inside : at ≤ length s
-  pub moved : to ≡ place + at
-  pub size : length out ≡ length out₀
-  pub left : (ps : List Piece) → PiecesOf s ps
-      → (qs : List Piece) × (rs : List Piece) × PiecesOf (drop at s) rs × (qs ++ rs ≡ ps) × Wrote out₀ place (pieces_bytes qs) out to
-
--- before the first
-pub copy_start : (out : List ℕ) (place : ℕ) (s : List ℕ) → Copying out place s out place 0
-unfolding pieces_bytes
-copy_start out place s =
-    record {
-      inside = omega arith;
-      moved = omega arith;
-      size = refl;
-      left = λ ps e. ([], ps, e, refl, wrote_none out place);
-    }
-
-module _ (out₀ : List ℕ) (place : ℕ) (s out : List ℕ) (to at : ℕ) (w : Copying out₀ place s out to at) where
-  -- one field on
-  pub copy_on : (out' : List ℕ) (letter start past r : ℕ) → FieldIs s at letter start past → length out' ≡ length out
-      → Wrote out to (field letter (take (past - start) (drop start s))) out' r → Copying out₀ place s out' r past
-  unfolding field
-  copy_on out' letter start past r f k v =
-      record {
-        inside = f.inside;
-        moved = omega (arith, w.moved, v.place, f.begins, f.order, content_size s at letter start past f);
-        size = k ∙ w.size;
-        left = λ ps e.
-            let (qs, rs, er, eq, u) = w.left ps e in
-            let n = next s at rs er letter start past f in (
-              qs ++ (n.one ∷ []),
-              n.others,
-              n.later,
-              append_assoc qs (n.one ∷ []) n.others ∙ ap (λ (x : List Piece). qs ++ x) (sym n.all) ∙ eq,
-              rw (bytes_last qs n.one, read_written letter (take (past - start) (drop start s)) n.one n.piece) (wrote_then u v),
-            );
-      }
-
-  -- past the last: no content that was read ends in a rest that is no field
-  pub copy_end : Ended (drop at s) → Copies out₀ place s out to
-  copy_end (inl b) ps e = let (qs, rs, er, eq, u) = w.left ps e in absurd (none_broken s at rs er b)
-  copy_end (inr b) ps e =
-      let (qs, rs, er, eq, u) = w.left ps e in
-      let all : qs ≡ ps = sym (append-nil qs) ∙ ap (λ (x : List Piece). qs ++ x) (sym (none_left s at rs er b)) ∙ eq in
-      rw (← all) u
-
--- ---- laying
+-- ---- all fields, one after the other
 
 -- so much growth is more
 pub grown_more : (p r : Line) (n m : ℕ) → LineGrown p r n → n ≤ m → LineGrown p r m
@@ -280,78 +169,107 @@ pub grown_none : (p : Line) (n m : ℕ) → Within p n → LineGrown p p m
 grown_none p n m w =
     record { base = refl; piece = w.piece; on = omega arith; at = omega arith; wider = omega arith; cols = omega arith }
 
--- the pieces up to a place of the content s are laid
-pub record Laid (out₀ : List ℕ) (p₀ : Line) (s : List ℕ) (joins rejoins : Bool) (out : List ℕ) (p : Line) (join : Bool) (at : ℕ) : Type 0 where
-  pub inside : at ≤ length s
-  pub grown : LineGrown p₀ p (3 * at)
+-- the fields of a list, laid
+abbrev AddsFields : List ℕ → Line → List Raw → Bool → Bool → List ℕ → Line → Type 0
+AddsFields out p fields joins rejoins out' r =
+    (ps : List Piece) → read_all read_piece fields ≡ some ps → all readable_piece ps ≡ true
+    → (st : List ℕ) (l : List Piece) → Held st l out p → Held st (add_pieces joins rejoins l ps) out' r
+
+-- No field more.
+adds_none : (out : List ℕ) (p : Line) (joins rejoins : Bool) → AddsFields out p [] joins rejoins out p
+unfolding add_pieces
+adds_none out p joins rejoins ps e ok st l h = rw (read_none read_piece ps e) h
+
+-- A rest that is no field reads as no pieces.
+adds_broken : (out out' : List ℕ) (p r : Line) (rest : List Raw) (joins rejoins : Bool) → AddsFields out p (broken ∷ rest) joins rejoins out' r
+unfolding read_piece
+adds_broken out out' p r rest joins rejoins ps e ok st l h =
+    let x = read_first read_piece broken rest ps e in
+    let none_is : none ≡ some x.one = x.first in
+    let z : ◌≡◌ {A = ℕ} 0 1 = cc in absurd (omega arith)
+
+-- A field, and those after it.
+adds_on : (out mid out' : List ℕ) (p q r : Line) (field : Raw) (rest : List Raw) (joins rejoins : Bool)
+    → AddsPiece out p field joins mid q → AddsFields mid q rest rejoins rejoins out' r → AddsFields out p (field ∷ rest) joins rejoins out' r
+unfolding add_pieces all
+adds_on out mid out' p q r field rest joins rejoins one others ps e ok st l h =
+    let x = read_first read_piece field rest ps e in
+    let both : all readable_piece (x.one ∷ x.more) ≡ true = sym (ap (all readable_piece) x.are) ∙ ok in
+    rw x.are
+    (others x.more x.later (and_right (readable_piece x.one) (all readable_piece x.more) both) st (add_piece joins l x.one)
+    (one x.one x.first (and_left (readable_piece x.one) (all readable_piece x.more) both) st l h))
+
+-- Some fields of a content are laid, of so many bytes, and the others are left.
+pub record Laid (out₀ : List ℕ) (p₀ : Line) (content : List ℕ) (joins rejoins : Bool) (out : List ℕ) (p : Line) (join : Bool) (left : List Raw) : Type 0 where
+  pub laid : ℕ
+  pub room : laid + raws_size left ≤ length content
+  pub grown : LineGrown p₀ p (3 * laid)
   pub size : length out ≡ length out₀
-  pub left : (ps : List Piece) → PiecesOf s ps → all readable_piece ps ≡ true → (st : List ℕ) (l : List Piece) → Held st l out₀ p₀
-      → (m : List Piece) × (rs : List Piece) × PiecesOf (drop at s) rs × (all readable_piece rs ≡ true)
-      × (add_pieces join rejoins m rs ≡ add_pieces joins rejoins l ps) × Held st m out p
+  pub pieces : (out' : List ℕ) (r : Line) → AddsFields out p left join rejoins out' r → AddsPieces out₀ p₀ content joins rejoins out' r
 
 -- before the first
-pub lay_start : (out : List ℕ) (p : Line) (s : List ℕ) (joins rejoins : Bool) (n : ℕ) → Within p n → Laid out p s joins rejoins out p joins 0
-lay_start out p s joins rejoins n w =
-    record {
-      inside = omega arith;
+pub lay_start : (out : List ℕ) (p : Line) (content : List ℕ) (joins rejoins : Bool) (left : List Raw) (n : ℕ) → Within p n → left ≡ raws content
+    → Laid out p content joins rejoins out p joins left
+lay_start out p content joins rejoins left n w e =
+    rw e
+    (record {
+      laid = 0;
+      room = omega (arith, raws_bytes content);
       grown = grown_none p n 0 w;
       size = refl;
-      left = λ ps e ok st l h. (l, ps, e, ok, refl, h);
-    }
+      pieces = λ out' r others. others;
+    })
 
-module _ (out₀ : List ℕ) (p₀ : Line) (s : List ℕ) (joins rejoins : Bool) (out : List ℕ) (p : Line) (join : Bool) (at : ℕ)
-    (w : Laid out₀ p₀ s joins rejoins out p join at) where
+module _ (out₀ : List ℕ) (p₀ : Line) (content : List ℕ) (joins rejoins : Bool) (out : List ℕ) (p : Line) (join : Bool) (left : List Raw)
+    (w : Laid out₀ p₀ content joins rejoins out p join left) where
   -- the room that is left for a field
-  pub lay_room : (letter start past : ℕ) → FieldIs s at letter start past → Within p₀ (4 + 3 * length s)
-      → Within p (4 + 3 * length (take (past - start) (drop start s)))
-  lay_room letter start past f v =
-      let n = content_size s at letter start past f in
+  pub lay_room : (letter : ℕ) (t : List ℕ) (rest : List Raw) → left ≡ whole letter t ∷ rest → Within p₀ (4 + 3 * length content)
+      → Within p (4 + 3 * length t)
+  lay_room letter t rest e v =
+      let n : raws_size left ≡ 3 + length t + raws_size rest = ap raws_size e in
       let g = w.grown in
       record {
         base = omega (arith, g.base, g.on, v.base);
         piece = g.piece;
-        room = omega (arith, g.at, v.room, f.begins, f.inside);
-        cols = omega (arith, g.cols, v.cols, f.begins, f.inside);
+        room = omega (arith, g.at, v.room, w.room);
+        cols = omega (arith, g.cols, v.cols, w.room);
       }
 
   -- one field on
-  pub lay_on : (out' : List ℕ) (r : Line) (letter start past : ℕ) → FieldIs s at letter start past → length out' ≡ length out
-      → LineGrown p r (3 + 3 * length (take (past - start) (drop start s)))
-      → AddsPiece out p letter (take (past - start) (drop start s)) join out' r → Laid out₀ p₀ s joins rejoins out' r rejoins past
-  unfolding add_pieces all
-  lay_on out' r letter start past f k g a =
-      let n = content_size s at letter start past f in
+  pub lay_on : (out' : List ℕ) (r : Line) (letter : ℕ) (t : List ℕ) (rest : List Raw) → left ≡ whole letter t ∷ rest → length out' ≡ length out
+      → LineGrown p r (3 + 3 * length t) → AddsPiece out p (whole letter t) join out' r
+      → Laid out₀ p₀ content joins rejoins out' r rejoins rest
+  lay_on out' r letter t rest e k g a =
+      let n : raws_size left ≡ 3 + length t + raws_size rest = ap raws_size e in
       let g₀ = w.grown in
       record {
-        inside = f.inside;
+        laid = w.laid + (3 + length t);
+        room = omega (arith, w.room);
         grown =
             record {
               base = g.base ∙ g₀.base;
               piece = g.piece;
               on = omega (arith, g.on, g₀.on);
-              at = omega (arith, g.at, g₀.at, f.begins);
+              at = omega (arith, g.at, g₀.at);
               wider = omega (arith, g.wider, g₀.wider);
-              cols = omega (arith, g.cols, g₀.cols, f.begins);
+              cols = omega (arith, g.cols, g₀.cols);
             };
         size = k ∙ w.size;
-        left = λ ps e ok st l h.
-            let (m, rs, er, okr, eq, hm) = w.left ps e ok st l h in
-            let x = next s at rs er letter start past f in
-            let both : all readable_piece (x.one ∷ x.others) ≡ true = sym (ap (all readable_piece) x.all) ∙ okr in (
-              add_piece join m x.one,
-              x.others,
-              x.later,
-              and_right (readable_piece x.one) (all readable_piece x.others) both,
-              ap (add_pieces join rejoins m) (sym x.all) ∙ eq,
-              a x.one x.piece (and_left (readable_piece x.one) (all readable_piece x.others) both) st m hm,
-            );
+        pieces = λ out'' z others. w.pieces out'' z (rw e (adds_on out out' out'' p r z (whole letter t) rest join rejoins a others));
+      }
+
+  -- a rest that is no field
+  pub lay_broken : (rest : List Raw) → left ≡ broken ∷ rest → Laid out₀ p₀ content joins rejoins out p join rest
+  lay_broken rest e =
+      let n : raws_size left ≡ raws_size rest = ap raws_size e in
+      record {
+        laid = w.laid;
+        room = omega (arith, w.room);
+        grown = w.grown;
+        size = w.size;
+        pieces = λ out' r others. w.pieces out' r (rw e (adds_broken out out' p r rest join rejoins));
       }
 
   -- past the last
-  pub lay_end : Ended (drop at s) → AddsPieces out₀ p₀ s joins rejoins out p
-  unfolding add_pieces
-  lay_end (inl b) ps e ok st l h = let (m, rs, er, okr, eq, hm) = w.left ps e ok st l h in absurd (none_broken s at rs er b)
-  lay_end (inr b) ps e ok st l h =
-      let (m, rs, er, okr, eq, hm) = w.left ps e ok st l h in
-      let done : m ≡ add_pieces joins rejoins l ps = ap (add_pieces join rejoins m) (sym (none_left s at rs er b)) ∙ eq in
-      rw (← done) hm
+  pub lay_end : left ≡ [] → LineGrown p₀ p (3 * length content) × AddsPieces out₀ p₀ content joins rejoins out p
+  lay_end e = (grown_more p₀ p (3 * w.laid) (3 * length content) w.grown (omega (arith, w.room)), w.pieces out p (rw e (adds_none out p join rejoins)))

@@ -1,2 +1,3 @@
 pub mod Holding
 pub mod Laying
+pub mod Tests

@@ -6,4 +6,4 @@ use Rattle.append_subrender.proofs.cells.add_rule.Goals as goal
 
 pub returns-clause-adds_rule : goal.returns-clause-adds_rule
 returns-clause-adds_rule c =
-    adds_rule _ _ _ _ _ _ 256 _ (omega (arith, c.wide-width.ensures.upper_bound)) c.wide-width.ensures.value c.add_border.ensures.adds_border
+    adds_rule _ _ _ _ _ _ 256 _ (omega arith) c.from.ensures c.add_border.ensures.adds_border

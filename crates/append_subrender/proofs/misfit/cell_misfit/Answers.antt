@@ -6,7 +6,7 @@ use Rattle.append_subrender.proofs.misfit.cell_misfit.Goals as goal
 
 pub returns-in-len1-up : goal.returns-in-len1-up
 returns-in-len1-up c =
-    cell_told _ _ _ _ _ (width_first _ c.in-len1-up.len_at_least) c.lines_misfit.ensures
+    cell_told _ _ _ _ _ (width_first _ c.in-len1-up.len_at_least) c.lines_overlap.ensures
 
 pub returns-in_default : goal.returns-in_default
 returns-in_default c =

@@ -9,8 +9,8 @@ returns-then-count-eq0 c =
 
 pub returns-then-repeats : goal.returns-then-repeats
 returns-then-repeats c =
-    guest_repeats _ _ _ _ _ c.count_fields-count.ensures c.if-count-eq0.false c.if-repeats.true c.lines_misfit.ensures
+    guest_repeats _ _ _ _ _ c.count_fields-count.ensures c.if-count-eq0.false c.if-repeats.true c.lines_overlap.ensures
 
 pub returns : goal.returns
 returns c =
-    guest_counts _ _ _ _ _ c.count_fields-count.ensures c.if-repeats.false c.lines_misfit-2.ensures
+    guest_counts _ _ _ _ _ c.count_fields-count.ensures c.if-repeats.false c.lines_overlap-2.ensures

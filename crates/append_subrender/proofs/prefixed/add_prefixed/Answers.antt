@@ -28,7 +28,7 @@ push_str-head-requires c =
 
 pub add_pieces-whole-requires : goal.add_pieces-whole-requires
 add_pieces-whole-requires c =
-    (grown_within _ _ _ _ _ c.requires c.begin_line-line.ensures.line_begun.0 c.push_str-head.ensures.line_grown (omega (arith, c.args.prefix.short, c.args.prefix.narrow, c.args.field.short)), c.args.field.short)
+    grown_within _ _ _ _ _ c.requires c.begin_line-line.ensures.line_begun.0 c.push_str-head.ensures.line_grown (omega (arith, c.args.prefix.short, c.args.prefix.narrow, c.args.field.short))
 
 pub add_text_line-requires : goal.add_text_line-requires
 add_text_line-requires c =
@@ -41,12 +41,12 @@ returns-then-field-eq76 c =
 
 pub push_holed-drawn-requires : goal.push_holed-drawn-requires
 push_holed-drawn-requires c =
-    record { segs_le_holes = (c.border_parts-parts.ensures.parts_in.order, c.border_parts-parts.ensures.parts_in.inside, c.args.field.short, omega arith); within = grown_within _ _ _ _ _ c.requires c.begin_line-line.ensures.line_begun.0 c.push_str-head.ensures.line_grown (omega (arith, c.args.prefix.short, c.args.prefix.narrow, c.args.field.short)) }
+    (omega arith, grown_within _ _ _ _ _ c.requires c.begin_line-line.ensures.line_begun.0 c.push_str-head.ensures.line_grown (omega (arith, c.args.prefix.short, c.args.prefix.narrow, c.args.field.short, c.of.ensures.within)))
 
 pub add_text_line-requires-2 : goal.add_text_line-requires-2
 add_text_line-requires-2 c =
-    (c.requires, grown_fits _ _ _ _ c.begin_line-line.ensures.line_begun.0 (grown_twice _ _ _ _ _ c.push_str-head.ensures.line_grown c.push_holed-drawn.ensures.line_grown) (omega (arith, c.args.prefix.short, c.args.prefix.narrow, c.args.field.short)))
+    (c.requires, grown_fits _ _ _ _ c.begin_line-line.ensures.line_begun.0 (grown_twice _ _ _ _ _ c.push_str-head.ensures.line_grown c.push_holed-drawn.ensures.line_grown) (omega (arith, c.args.prefix.short, c.args.prefix.narrow, c.args.field.short, c.of.ensures.within)))
 
 pub returns : goal.returns
 returns c =
-    record { one_line_more = c.add_text_line-2.ensures.one_line_more; adds_prefixed = prefixed_border _ _ _ _ _ _ _ _ _ _ _ _ _ _ _ _ _ c.if-field-eq76.false (search rules) c.begin_line-line.ensures.begins_line c.push_str-head.ensures.pushes c.border_parts-parts.ensures.finds_parts c.push_holed-drawn.ensures.pushes_holed c.add_text_line-2.ensures.adds_text_line }
+    record { one_line_more = c.add_text_line-2.ensures.one_line_more; adds_prefixed = prefixed_border _ _ _ _ _ _ _ _ _ _ _ _ _ _ _ _ _ c.if-field-eq76.false (search rules) c.begin_line-line.ensures.begins_line c.push_str-head.ensures.pushes c.of.ensures.reads_border c.push_holed-drawn.ensures.pushes_holed c.add_text_line-2.ensures.adds_text_line }

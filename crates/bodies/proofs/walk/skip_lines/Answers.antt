@@ -1,31 +1,19 @@
 -- `walk::skip_lines` meets its contract.
 -- Assumes nothing.
-use mathlib.Core.Path.{sym, ◌∙◌}
-use native.Mathlib.Omega.{arith}
-use Rattle.bodies.proofs.LineLaws.{skip_on, skip_all, skip_past, skip_missing}
-use Rattle.bodies.proofs.FieldLaws.{found_at}
+use Rattle.std.proofs.Common.{arith}
+use Rattle.bodies.proofs.WalkLaws.{skip_on, skip_all}
 use Rattle.bodies.proofs.walk.skip_lines.Goals as goal
-
-pub returns-then-end-p-clause-skips_to : goal.returns-then-end-p-clause-skips_to
-returns-then-end-p-clause-skips_to c = skip_all _ _ _ c.loop.counter c.args.n _ c.loop.invariant.skips c.if-end-p.true (omega arith)
 
 pub returns-in_default : goal.returns-in_default
 returns-in_default c =
     record {
-      lower_bound = (c.loop.invariant.low, c.loop.invariant.high);
-      skips_to = skip_missing _ _ _ c.loop.counter c.args.n _ c.field_at.result c.loop.invariant.skips c.if-end-p.false c.field_at.ensures.value c.in_default.not-At;
+      shorter = c.loop.invariant.shorter;
+      skips = skip_all _ _ c.loop.counter c.args.n c.loop.invariant.skips (omega arith) c.in_default.ensures.splits_off;
     }
-
-pub returns-then-end-next-clause-skips_to : goal.returns-then-end-next-clause-skips_to
-returns-then-end-next-clause-skips_to c =
-    skip_past _ _ _ c.loop.counter c.args.n _ _ _ _ c.loop.invariant.skips c.if-end-p.false (sym c.field_at.ensures.value ∙ c.in-At.is) c.if-end-next.true
 
 pub loop-preserved : goal.loop-preserved
 loop-preserved c =
-    let e = sym c.field_at.ensures.value ∙ c.in-At.is in
-    let f = found_at _ _ _ _ _ e in
     record {
-      low = omega (arith, c.loop.invariant.low, f.next_is);
-      high = λ h. c.if-end-next.false;
-      skips = skip_on _ _ _ c.loop.counter _ _ _ _ c.loop.invariant.skips c.if-end-p.false e;
+      shorter = omega (arith, c.loop.invariant.shorter, c.in-Some.ensures.size);
+      skips = skip_on _ _ _ c.in-Some.field-0-0 c.loop.counter c.loop.invariant.skips c.in-Some.ensures.splits_off;
     }

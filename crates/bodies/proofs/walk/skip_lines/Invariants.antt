@@ -1,12 +1,11 @@
--- `walk::skip_lines` meets its contract: from the place on stand the lines without the first so many.
+-- `walk::skip_lines` meets its contract: what is left are the lines without the first so many.
 -- Assumes nothing.
-use Prim.Native.Nat.{◌≤◌}
-use Rattle.bodies.specs.Walk.{SkipsTo}
+use Rattle.std.proofs.Common.{◌≤◌, length}
+use Rattle.bodies.specs.Walk.{Skips}
 use Rattle.bodies.proofs.walk.skip_lines.Given as goal
 
 abbrev pub invariant-loop : goal.invariant-loop
 invariant-loop l = record {
-  low : l.at ≤ l.p;
-  high : l.at ≤ l.end → l.p ≤ l.end;
-  skips : SkipsTo l.s l.at l.end l.counter l.p;
+  shorter : length l.rest ≤ length l.lines;
+  skips : Skips l.lines l.counter l.rest;
 }

@@ -1,38 +1,23 @@
 -- `walk::walk_lines` meets its contract.
 -- Assumes nothing.
-use mathlib.Core.Path.{refl, sym, subst, ◌∙◌}
-use native.Mathlib.Omega.{arith}
-use Rattle.fields.specs.Field.{Short}
-use Rattle.bodies.proofs.LineLaws.{passes_start, passes_on, passes_end, passes_missing, numbers_start, numbers_on, numbers_end, numbers_missing}
-use Rattle.bodies.proofs.FieldLaws.{found_at}
+use Rattle.std.proofs.Common.{refl, rules, ◌≡◌, ◌||◌}
+use lib.Dec.{eqb}
+use Rattle.bodies.proofs.WalkLaws.{passed_start, passed_on, passed_end, passed_broken, passed_numbers}
 use Rattle.bodies.proofs.walk.walk_lines.Goals as goal
+use Rattle.bodies.proofs.walk.walk_lines.Goals.{then-walked, else-walked}
 
-pub loop-at-init : goal.loop-at-init
-loop-at-init c = record { numbers = numbers_start _ _ _; passes = passes_start _ _ _; there = tt }
+pub loop-line-init : goal.loop-line-init
+loop-line-init c = passed_start _ _ refl refl refl refl
 
-pub loop-at-smaller : goal.loop-at-smaller
-loop-at-smaller c =
-    let f = found_at _ _ _ _ _ (sym c.field_at.ensures.value ∙ c.in-At.is) in omega (arith, f.next_is)
+pub loop-line-preserved : goal.loop-line-preserved
+loop-line-preserved c =
+    let joined : c.if-walked.walked ≡ (c.loop-line.walked.holed || eqb c.in-Some.line.letter 0x47) =
+    elim c.if-walked.branch [ then-walked w ↦ search rules | else-walked w ↦ search rules ]
+    in
+    passed_on _ _ _ c.in-Some.line _ _ c.loop-line.invariant c.in-Some.ensures.splits_off c.in-Some.ensures.size refl refl refl joined
 
-pub loop-at-preserved : goal.loop-at-preserved
-loop-at-preserved c =
-    let e = sym c.field_at.ensures.value ∙ c.in-At.is in
-    record {
-      numbers = numbers_on _ _ _ _ _ _ _ _ _ c.loop-at.invariant.numbers c.loop-at-test.true (found_at _ _ _ _ _ e) (subst Short c.in-At.is c.field_at.ensures.short);
-      passes = passes_on _ _ _ _ _ _ _ _ _ _ _ c.loop-at.invariant.passes c.loop-at-test.true e refl;
-      there = c.loop-at-test.true;
-    }
-
-pub returns-in_default : goal.returns-in_default
-returns-in_default c =
-    record {
-      walked_in = numbers_missing _ _ _ _ _ _ _ c.loop-at.invariant.numbers;
-      walks = passes_missing _ _ _ _ _ _ _ c.field_at.result _ c.loop-at.invariant.passes c.loop-at-test.true c.field_at.ensures.value c.in_default.not-At;
-    }
+pub returns-then-is_empty : goal.returns-then-is_empty
+returns-then-is_empty c = record { walked_in = passed_numbers _ _ _ c.loop-line.invariant; walks = passed_end _ _ _ c.loop-line.invariant (search rules) }
 
 pub returns : goal.returns
-returns c =
-    record {
-      walked_in = numbers_end _ _ _ _ _ c.loop-at.invariant.numbers c.loop-at.invariant.there c.loop-at-test.false;
-      walks = passes_end _ _ _ _ _ c.loop-at.invariant.passes c.loop-at-test.false;
-    }
+returns c = record { walked_in = search rules; walks = passed_broken _ _ _ _ c.loop-line.invariant (search rules) c.in_default.ensures.splits_off }

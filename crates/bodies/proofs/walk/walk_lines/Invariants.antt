@@ -1,17 +1,11 @@
--- `walk::walk_lines` meets its contract: the lines passed so far, with the place of the last of them, their number and whether one has holes,
--- and those ahead are the whole.
+-- `walk::walk_lines` meets its contract: the fields passed so far and those ahead are all.
 -- Assumes nothing.
-use Prim.Native.Nat.{◌-◌, ◌<◌}
-use Rattle.std.specs.Prelude.{unwrap_or, IfSome}
-use Rattle.bodies.proofs.LineLaws.{Passes, PassedIn}
+use Rattle.std.proofs.Common.{length}
+use Rattle.bodies.proofs.WalkLaws.{Passed}
 use Rattle.bodies.proofs.walk.walk_lines.Given as goal
 
-abbrev pub invariant-loop-at : goal.invariant-loop-at
-invariant-loop-at l = record {
-  numbers : PassedIn l.s l.from l.to l.at (unwrap_or l.walked.last l.to) l.walked.count;
-  passes : Passes l.s l.from l.to l.at (unwrap_or l.walked.last l.to) l.walked.count l.walked.holed;
-  there : IfSome l.walked.last (λ r. r < l.to);
-}
+abbrev pub invariant-loop-line : goal.invariant-loop-line
+invariant-loop-line l = Passed l.lines l.rest l.walked
 
-abbrev pub decreases-loop-at : goal.decreases-loop-at
-decreases-loop-at l = l.to - l.at
+abbrev pub decreases-loop-line : goal.decreases-loop-line
+decreases-loop-line l = length l.rest

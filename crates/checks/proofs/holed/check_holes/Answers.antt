@@ -13,7 +13,7 @@ returns-in_default c = holes_torn _ _ _ _ c.loop-hole.invariant _ (rw c.in_defau
 pub loop-hole-preserved : goal.loop-hole-preserved
 loop-hole-preserved c =
     rw c.first_of-worst.ensures
-    (holes_on _ _ _ _ c.loop-hole.invariant _ _ _ (rw (c.in-Ok.is, ← c.from.ensures) at c.in-Some.ensures.steps) c.check_hole.ensures)
+    (holes_on _ _ _ _ c.loop-hole.invariant _ _ _ (rw c.in-Ok.is at c.in-Some.ensures.steps) c.check_hole.ensures)
 
 pub returns : goal.returns
 returns c = holes_end _ _ _ _ c.loop-hole.invariant c.in-None.ensures.steps.0

@@ -5,4 +5,4 @@ use Rattle.holes.proofs.cols.border_cols.Goals as goal
 
 pub returns-clause-counts_border : goal.returns-clause-counts_border
 returns-clause-counts_border c =
-    border_counts c.args.content.now _ _ _ _ _ _ c.requires.1 c.max-end.ensures c.walk_end-cols.ensures.ends_at c.then_some.ensures
+    border_counts c.args.border _ _ _ _ c.max-end.ensures c.walk_end-cols.ensures.ends_at c.then_some.ensures

@@ -1,31 +1,18 @@
 -- `cols::pieces_width` meets its contract.
 -- Assumes nothing.
-use mathlib.Core.Path.{sym, ◌∙◌}
-use native.Mathlib.Omega.{arith}
-use Rattle.fields.proofs.Fields.{field_is}
-use Rattle.holes.proofs.WidthLaws.{pass_on, pass_last}
+use Rattle.std.proofs.Common.{refl}
+use Rattle.holes.proofs.WidthLaws.{count_start, count_on, count_broken, count_end}
 use Rattle.holes.proofs.cols.pieces_width.Goals as goal
 
-pub slice_bounds-piece_cols-count : goal.slice_bounds-piece_cols-count
-slice_bounds-piece_cols-count c =
-    let r = field_is _ _ _ _ _ c.loop-letter.invariant.inside (sym c.field_at.ensures.value ∙ c.in-At.is) in r.order
+pub loop-piece-init : goal.loop-piece-init
+loop-piece-init c = rw (c.into_iter-piece-iterator.ensures.into_iter_gives, c.new-piece-items.ensures) (count_start _ _ refl)
 
-pub slice_bounds-piece_cols-start : goal.slice_bounds-piece_cols-start
-slice_bounds-piece_cols-start c =
-    let r = field_is _ _ _ _ _ c.loop-letter.invariant.inside (sym c.field_at.ensures.value ∙ c.in-At.is) in omega (arith, r.order, r.inside)
+pub loop-piece-preserved-in-Ok : goal.loop-piece-preserved-in-Ok
+loop-piece-preserved-in-Ok c =
+    count_on _ _ _ c.loop-piece.invariant _ _ _ _ (rw c.in-Ok.is at c.in-Some.ensures.steps) c.piece_cols-cols.ensures.upper_bound c.piece_cols-cols.ensures.counts_piece
 
-pub slice_bounds-piece_cols-end : goal.slice_bounds-piece_cols-end
-slice_bounds-piece_cols-end c =
-    let r = field_is _ _ _ _ _ c.loop-letter.invariant.inside (sym c.field_at.ensures.value ∙ c.in-At.is) in omega (arith, r.inside)
-
-pub loop-letter-smaller : goal.loop-letter-smaller
-loop-letter-smaller c =
-    let r = field_is _ _ _ _ _ c.loop-letter.invariant.inside (sym c.field_at.ensures.value ∙ c.in-At.is) in omega (arith, r.begins, r.order, r.inside)
-
-pub loop-letter-preserved : goal.loop-letter-preserved
-loop-letter-preserved c =
-    let r = field_is _ _ _ _ _ c.loop-letter.invariant.inside (sym c.field_at.ensures.value ∙ c.in-At.is) in
-    pass_on _ _ _ c.loop-letter.invariant _ _ _ _ r c.piece_cols-cols.ensures.upper_bound c.piece_cols-cols.ensures.counts_piece
+pub loop-piece-preserved : goal.loop-piece-preserved
+loop-piece-preserved c = count_broken _ _ _ c.loop-piece.invariant _ (rw c.in_default.is at c.in-Some.ensures.steps)
 
 pub returns-clause-counts_pieces : goal.returns-clause-counts_pieces
-returns-clause-counts_pieces c = pass_last _ _ _ c.loop-letter.invariant c.field_at.result c.field_at.ensures.value c.in_default.not-At
+returns-clause-counts_pieces c = count_end _ _ _ c.loop-piece.invariant c.in-None.ensures.steps.0

@@ -1,12 +1,8 @@
 -- `cols::pieces_width` meets its contract: the columns so far and those of the pieces left are the columns of all.
 -- Assumes nothing.
-use Rattle.holes.proofs.WidthLaws.{Passed}
-use lib.ListN.{length}
-use Prim.Native.Nat.{◌-◌}
+use Rattle.fields.specs.List.{left}
+use Rattle.holes.proofs.WidthLaws.{Counted}
 use Rattle.holes.proofs.cols.pieces_width.Given as goal
 
-abbrev pub invariant-loop-letter : goal.invariant-loop-letter
-invariant-loop-letter l = Passed l.content l.cols l.at
-
-abbrev pub decreases-loop-letter : goal.decreases-loop-letter
-decreases-loop-letter l = length l.content - l.at
+abbrev pub invariant-loop-piece : goal.invariant-loop-piece
+invariant-loop-piece l = Counted l.content l.cols (left l.piece-iterator)

@@ -5,4 +5,4 @@ use Rattle.holes.proofs.WidthLaws.{Walked}
 use Rattle.holes.proofs.cols.walk_end.Given as goal
 
 abbrev pub invariant-loop-hole : goal.invariant-loop-hole
-invariant-loop-hole l = Walked l.content l.holes l.end l.pos (holes_left l.hole-iterator)
+invariant-loop-hole l = Walked l.holes l.end l.pos (holes_left l.hole-iterator)

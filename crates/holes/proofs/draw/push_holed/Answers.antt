@@ -5,4 +5,4 @@ use Rattle.holes.proofs.draw.push_holed.Goals as goal
 
 pub returns : goal.returns
 returns c =
-    record { line_grown = c.push_holes.ensures.line_grown; pushes_holed = pushed_holed _ _ _ _ _ _ _ _ _ c.push_holes.ensures.draws_holes }
+    record { line_grown = c.push_holes.ensures.line_grown; pushes_holed = pushed_holed _ _ _ _ _ c.args.border _ c.push_holes.ensures.draws_holes }

@@ -1,4 +1,4 @@
--- `draw::push_piece` meets its contract: a text under one annotation, or the one field of the bytes as it stands.
+-- `draw::push_piece` meets its contract: a text under one annotation, or the field as it stands.
 -- Assumes nothing.
 use Rattle.holes.proofs.Segments.{piece_text, piece_stands}
 use Rattle.holes.proofs.draw.push_piece.Goals as goal
@@ -8,4 +8,4 @@ returns-in-AsText-clause-pushes_piece c = piece_text _ _ _ _ _ _ _ _ c.in-AsText
 
 pub returns-in-AsItStands-clause-pushes_piece : goal.returns-in-AsItStands-clause-pushes_piece
 returns-in-AsItStands-clause-pushes_piece c =
-    piece_stands _ _ _ _ _ _ _ _ _ c.in-AsItStands.is c.args.hole.one_field c.add_pieces.ensures.adds_pieces
+    piece_stands _ _ _ _ _ _ _ _ c.in-AsItStands.is c.add_piece.ensures.adds_piece

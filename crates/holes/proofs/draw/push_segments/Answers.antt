@@ -12,6 +12,6 @@ returns-then-to-from c =
 
 pub returns : goal.returns
 returns c =
-    let n = part_length c.min-a.result c.min-b.result c.args.segs.now (low _ _ _ c.min-b.ensures) in
+    let n = part_length c.min-a.result c.min-b.result c.args.segments.now (low _ _ _ c.min-b.ensures) in
     let k = few _ _ _ _ _ c.min-a.ensures c.min-b.ensures c.if-to-from.false in
-    record { line_grown = grown_more _ _ _ _ c.push_drawn.ensures.line_grown (omega (arith, n, k)); draws_part = drawn_part _ _ _ _ _ c.args.segs.now _ _ _ _ c.if-to-from.false c.min-a.ensures c.min-b.ensures c.push_drawn.ensures.draws }
+    record { line_grown = grown_more _ _ _ _ c.push_drawn.ensures.line_grown (omega (arith, n, k)); draws_part = drawn_part _ _ _ _ _ c.args.segments.now _ _ _ _ c.if-to-from.false c.min-a.ensures c.min-b.ensures c.push_drawn.ensures.draws }

@@ -5,10 +5,10 @@ use Rattle.holes.proofs.draw.push_text.Goals as goal
 
 pub returns-in-len1-up-clause-pushes_text : goal.returns-in-len1-up-clause-pushes_text
 returns-in-len1-up-clause-pushes_text c =
-    text_pushed _ _ _ _ _ _ _ c.args.content.now c.if-letter-eq83.true c.text_width.ensures.value c.push_str.ensures.pushes
+    text_pushed _ _ _ _ _ _ _ c.args.piece.content.now c.if-piece-eq83.true c.text_width.ensures.value c.push_str.ensures.pushes
 
 pub returns-in_default-clause-pushes_text : goal.returns-in_default-clause-pushes_text
 returns-in_default-clause-pushes_text c = text_empty _ _ _ _ _ c.in_default.len_below
 
 pub returns-in_default-2-clause-pushes_text : goal.returns-in_default-2-clause-pushes_text
-returns-in_default-2-clause-pushes_text c = name_pushed _ _ _ _ _ c.if-letter-eq83.false
+returns-in_default-2-clause-pushes_text c = name_pushed _ _ _ _ _ c.if-piece-eq83.false

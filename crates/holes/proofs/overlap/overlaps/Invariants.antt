@@ -5,4 +5,4 @@ use Rattle.holes.proofs.OverlapLaws.{Looks}
 use Rattle.holes.proofs.overlap.overlaps.Given as goal
 
 abbrev pub invariant-loop-hole : goal.invariant-loop-hole
-invariant-loop-hole l = Looks l.content l.holes l.count l.pos (holes_left l.hole-iterator)
+invariant-loop-hole l = Looks l.holes l.count l.pos (holes_left l.hole-iterator)

@@ -1,26 +1,17 @@
--- `reader::walk::find` meets its contract: the content of the field at the place lies in the bytes.
+-- `reader::walk::find` meets its contract: behind the last byte no field is left.
 -- Assumes nothing.
-use Rattle.reader.proofs.Places.{found, field_in}
-use mathlib.Core.Path.{◌≡◌, ◌∙◌, sym}
-use lib.ListN.{drop}
-use Rattle.std.proofs.Common.{rules}
-use Rattle.fields.specs.Field.{field_at}
-use Rattle.fields.specs.declared.field.Field.TheVariants as field
+use Rattle.std.proofs.Common.{◌≡◌, ◌≤◌, length, arith}
+use Rattle.std.proofs.lemmas.Bool.Decides.{nat_tests}
+use mathlib.Core.Logic.{⊎_elim}
+use Rattle.reader.proofs.Places.{nothing_left}
 use Rattle.reader.proofs.walk.find.Goals as goal
 
-pub slice_bounds-content-count : goal.slice_bounds-content-count
-slice_bounds-content-count c =
-    (found _ _ _ _ _ (sym c.field_at.ensures.value ∙ c.in-At.is)).order
+pub returns-in_err-rest : goal.returns-in_err-rest
+returns-in_err-rest c =
+    let past : length c.args.bytes.now ≤ c.args.at = ⊎_elim (λ h. omega arith) (λ h. absurd (omega arith)) c.in_err-rest.ensures.lookup.0 in
+    rw c.from_residual.ensures (nothing_left c.args.bytes.now c.args.at past)
 
-pub slice_bounds-content-start : goal.slice_bounds-content-start
-slice_bounds-content-start c =
-    (found _ _ _ _ _ (sym c.field_at.ensures.value ∙ c.in-At.is)).order
-
-pub slice_bounds-content-end : goal.slice_bounds-content-end
-slice_bounds-content-end c =
-    (found _ _ _ _ _ (sym c.field_at.ensures.value ∙ c.in-At.is)).inside
-
-pub returns-in-At : goal.returns-in-At
-returns-in-At c =
-    let there : field_at c.args.at (drop c.args.at c.args.bytes.now) ≡ field.At c.in-At.letter c.in-At.start c.in-At.next = sym c.field_at.ensures.value ∙ c.in-At.is in
-    field_in _ _ c.in-At.start _ there (search rules)
+pub returns-then-is_empty : goal.returns-then-is_empty
+returns-then-is_empty c =
+    let none : length c.in_ok-rest.rest.now ≡ 0 = grind (arith, nat_tests) in
+    nothing_left c.args.bytes.now c.args.at (omega (arith, none, c.in_ok-rest.ensures.lookup.0))

@@ -18,4 +18,4 @@ returns-in-Err-2 g c =
 
 pub returns-in-Err : goal.returns-in-Err
 returns-in-Err g c =
-    rest_broken g.T.FromField.read _ _ (rw c.in-Err.is at c.in_ok-found.ensures)
+    rest_broken g.T.FromField.read c.args.bytes.now c.args.at (rw c.in-Err.is at c.in_ok-found.ensures)

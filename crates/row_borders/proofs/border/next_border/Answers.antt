@@ -1,20 +1,25 @@
--- `border::next_border` meets its contract. Assumes nothing.
-use mathlib.Core.Path.{◌∙◌}
-use Rattle.row_borders.proofs.BorderLaws.{below_plain, below_collapsed}
+-- `border::next_border` meets its contract: joined or not, and merged.
+-- Assumes nothing.
+use Rattle.row_borders.proofs.BorderLaws.{JoinsNew, new_plain, new_joined, below_plain, below_collapsed}
 use Rattle.row_borders.proofs.border.next_border.Goals as goal
+use Rattle.row_borders.proofs.border.next_border.Goals.{then-joined, else-joined}
 
-pub new_border-n-requires : goal.new_border-n-requires
-new_border-n-requires c =
-    (c.requires.few, c.requires.narrow, c.requires.rest_in)
+pub returns-then-collapse-clause-borders_below : goal.returns-then-collapse-clause-borders_below
+returns-then-collapse-clause-borders_below c =
+    let new : JoinsNew c.args.border.now c.args.joined c.args.row.now c.if-joined.border =
+    elim c.if-joined.branch [
+      | then-joined w ↦ rw (w.if-joined.true, w.border-is) (new_joined _ _ w.join_edges.result c.args.row.now w.join_edges.ensures.joins_edges)
+      | else-joined w ↦ rw (w.if-joined.false, w.border-is) (new_plain c.args.border.now c.args.row.now)
+    ]
+    in
+    rw c.if-collapse.true (below_collapsed c.args.border.now _ _ c.args.joined c.args.row.now new c.merge_seats.ensures.merges_seats)
 
-pub merge_seats-requires : goal.merge_seats-requires
-merge_seats-requires c =
-    c.requires
-
-pub returns-then-collapse : goal.returns-then-collapse
-returns-then-collapse c =
-    record { border_len_unchanged = c.merge_seats.ensures.border_len_unchanged ∙ c.new_border-n.ensures.border_len_unchanged; borders_below = below_collapsed c.args.border.now _ _ _ c.args.joined _ _ c.args.at.now c.args.end.now c.args.width.now c.args.hung.now c.args.kept c.new_border-n.ensures.joins_new _ _ c.args.collapse c.if-collapse.true c.merge_seats.ensures.merges_seats }
-
-pub returns : goal.returns
-returns c =
-    record { border_len_unchanged = c.new_border-n.ensures.border_len_unchanged; borders_below = below_plain c.args.border.now _ _ _ c.args.joined _ _ c.args.at.now c.args.end.now c.args.width.now c.args.hung.now c.args.kept c.new_border-n.ensures.joins_new c.args.collapse c.if-collapse.false }
+pub returns-else-collapse-clause-borders_below : goal.returns-else-collapse-clause-borders_below
+returns-else-collapse-clause-borders_below c =
+    let new : JoinsNew c.args.border.now c.args.joined c.args.row.now c.if-joined.border =
+    elim c.if-joined.branch [
+      | then-joined w ↦ rw (w.if-joined.true, w.border-is) (new_joined _ _ w.join_edges.result c.args.row.now w.join_edges.ensures.joins_edges)
+      | else-joined w ↦ rw (w.if-joined.false, w.border-is) (new_plain c.args.border.now c.args.row.now)
+    ]
+    in
+    rw c.if-collapse.false (below_plain c.args.border.now _ c.args.joined c.args.row.now new)

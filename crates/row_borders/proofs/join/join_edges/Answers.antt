@@ -1,20 +1,24 @@
--- `join::join_edges` meets its contract: the kept seats, and then those ahead. Assumes nothing.
-use mathlib.Core.Path.{◌∙◌}
-use Rattle.row_borders.proofs.JoinLaws.{edges_more, edges_all}
+-- Assumes nothing.
+use Rattle.std.proofs.Common.{refl, ◌∙◌}
+use Rattle.row_borders.proofs.JoinLaws.{join_starts, join_goes, join_ends}
 use Rattle.row_borders.proofs.join.join_edges.Goals as goal
 
-pub join_kept-j-requires : goal.join_kept-j-requires
-join_kept-j-requires c =
-    (c.requires.0, c.requires.1)
+pub loop-seat-init : goal.loop-seat-init
+loop-seat-init c =
+    record {
+      room = refl;
+      low = tt;
+      so_far = join_starts c.args.side c.args.border.now c.args.row.now _ (rw c.into_iter-seat-iterator.ensures.into_iter_gives c.iter-seat-items.ensures);
+    }
 
-pub join_rest-requires : goal.join_rest-requires
-join_rest-requires c =
-    (c.join_kept-j.ensures.joined_in.0, c.requires.2)
+pub loop-seat-preserved : goal.loop-seat-preserved
+loop-seat-preserved c =
+    record {
+      room = c.join_next.ensures.room ∙ c.loop-seat.invariant.room;
+      low = c.join_next.ensures.upper_bound;
+      so_far = join_goes c.args.side c.args.border.now c.args.row.now _ _ c.loop-seat.end _ _ _ c.in-Some.seat c.in-Some.ensures.steps c.join_next.ensures.joins_next c.loop-seat.invariant.so_far;
+    }
 
-pub returns-then-kept : goal.returns-then-kept
-returns-then-kept c =
-    record { joined_in = (c.join_rest.ensures.joined_in.0, c.join_rest.ensures.joined_in.1 ∙ c.join_kept-j.ensures.joined_in.1); joins_edges = edges_more _ _ _ _ _ c.join_kept-j.result c.join_rest.result _ _ c.args.width.now c.args.kept c.if-kept.true c.join_kept-j.ensures.joins_kept c.join_rest.ensures.joins_rest }
-
-pub returns : goal.returns
-returns c =
-    record { joined_in = c.join_kept-j.ensures.joined_in; joins_edges = edges_all _ _ _ _ c.join_kept-j.result _ _ c.args.width.now c.args.kept c.if-kept.false c.join_kept-j.ensures.joins_kept }
+pub returns-clause-joins_edges : goal.returns-clause-joins_edges
+returns-clause-joins_edges c =
+    join_ends c.args.side c.args.border.now c.args.row.now _ c.loop-seat.end _ c.loop-seat.seat-iterator c.next.new.self c.in-None.ensures.steps c.unwrap_or.ensures c.loop-seat.invariant.so_far

@@ -1,20 +1,16 @@
--- `merge::merge_seats` meets its contract: the kept seats, and then those ahead. Assumes nothing.
-use mathlib.Core.Path.{◌∙◌}
-use Rattle.row_borders.proofs.MergeLaws.{seats_more, seats_all}
+-- Assumes nothing.
+use Rattle.std.proofs.Common.{◌∙◌}
+use Rattle.row_borders.proofs.MergeLaws.{merge_goes, merge_ends}
 use Rattle.row_borders.proofs.merge.merge_seats.Goals as goal
 
-pub merge_kept-m-requires : goal.merge_kept-m-requires
-merge_kept-m-requires c =
-    (c.requires.few, c.requires.narrow, c.requires.ordered)
+pub loop-seat-preserved : goal.loop-seat-preserved
+loop-seat-preserved c =
+    record {
+      room = c.merge_lines.ensures.room ∙ c.loop-seat.invariant.room;
+      low = c.advance-pos.ensures.upper_bound;
+      so_far = merge_goes c.args.side c.args.border.now c.args.row.now _ _ c.loop-seat.pos _ _ _ c.in-Some.seat c.in-Some.ensures.steps c.merge_lines.ensures.merges_lines c.advance-pos.ensures.advances c.loop-seat.invariant.so_far;
+    }
 
-pub merge_rest-requires : goal.merge_rest-requires
-merge_rest-requires c =
-    (c.requires.rest_in, c.merge_kept-m.ensures.pos_bound.0)
-
-pub returns-then-kept : goal.returns-then-kept
-returns-then-kept c =
-    record { border_len_unchanged = c.merge_rest.ensures.border_len_unchanged ∙ c.merge_kept-m.ensures.pos_bound.1; merges_seats = seats_more _ _ _ _ _ c.merge_kept-m.result c.merge_rest.result _ _ c.args.at.now c.args.end.now c.args.width.now c.args.hung.now c.args.kept c.if-kept.true c.merge_kept-m.ensures.merges_kept c.merge_rest.ensures.merges_rest }
-
-pub returns : goal.returns
-returns c =
-    record { border_len_unchanged = c.merge_kept-m.ensures.pos_bound.1; merges_seats = seats_all _ _ _ _ c.merge_kept-m.result _ _ c.args.at.now c.args.end.now c.args.width.now c.args.hung.now c.args.kept c.if-kept.false c.merge_kept-m.ensures.merges_kept }
+pub returns-clause-merges_seats : goal.returns-clause-merges_seats
+returns-clause-merges_seats c =
+    merge_ends c.args.side c.args.border.now c.args.row.now _ c.loop-seat.pos c.loop-seat.seat-iterator c.next.new.self c.in-None.ensures.steps c.loop-seat.invariant.so_far

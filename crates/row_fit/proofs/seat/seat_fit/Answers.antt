@@ -1,13 +1,19 @@
--- `seat::seat_fit` meets its contract. Assumes nothing.
-use native.Mathlib.Omega.{arith}
-use borrow.Author.Rules.{rules}
-use Rattle.row_fit.proofs.SeatLaws.{fit_ends, fit_hangs}
+-- `seat::seat_fit` meets its contract.
+-- Assumes nothing.
+use Rattle.std.proofs.Common.{rules}
+use Rattle.row_fit.proofs.SeatLaws.{seat_wide, seat_crossed, seat_fits}
 use Rattle.row_fit.proofs.seat.seat_fit.Goals as goal
+use Rattle.row_fit.proofs.seat.seat_fit.Goals.{then-too_wide-via-then-too_wide, then-too_wide-via-else-too_wide+then-lines_overlap}
 
-pub returns-then-span-le1 : goal.returns-then-span-le1
-returns-then-span-le1 c =
-    record { fit_in = record { join_low = omega (arith, c.bottom_join-join.ensures.upper_bound); cols_low = omega arith }; finds_fit = fit_ends _ _ _ _ _ _ _ _ _ c.body_of-b.result _ _ (record { body = c.body_of-b.ensures.finds_body; wide = _; crossed = _; wide_is = c.too_wide-wide.ensures; crosses = c.lines_overlap-crossed.ensures; either_is = c.either-misfit.ensures; joins = c.bottom_join-join.ensures.finds_join }) c.if-span-le1.true }
+pub returns-then-too_wide : goal.returns-then-too_wide
+returns-then-too_wide c =
+    elim c.then-too_wide.branch [
+      | then-too_wide-via-then-too_wide w ↦ seat_wide c.args.seat _ _ _ c.body_of-body.result _ c.body_of-body.ensures.finds_body c.too_wide.ensures w.if-too_wide.true
+      | then-too_wide-via-else-too_wide+then-lines_overlap w ↦ seat_crossed c.args.seat _ _ _ c.body_of-body.result _ w.lines_overlap.result c.body_of-body.ensures.finds_body c.too_wide.ensures
+          w.lines_overlap.ensures w.if-lines_overlap.true
+    ]
 
 pub returns : goal.returns
 returns c =
-    record { fit_in = record { join_low = omega (arith, c.bottom_join-join.ensures.upper_bound); cols_low = search rules }; finds_fit = rw (c.is_some.ensures, c.unwrap_or.ensures) (fit_hangs _ _ _ _ _ _ _ _ _ c.body_of-b.result _ _ c.through_cols-t.result (record { body = c.body_of-b.ensures.finds_body; wide = _; crossed = _; wide_is = c.too_wide-wide.ensures; crosses = c.lines_overlap-crossed.ensures; either_is = c.either-misfit.ensures; joins = c.bottom_join-join.ensures.finds_join }) c.if-span-le1.false c.through_cols-t.ensures.counts_through) }
+    seat_fits c.args.seat _ _ _ c.body_of-body.result _ _ _ c.body_of-body.ensures.finds_body c.too_wide.ensures c.if-too_wide.false c.lines_overlap.ensures
+    c.if-lines_overlap.false (search rules) c.through_cols.ensures.counts_through

@@ -1,40 +1,19 @@
--- `seat::through_cols` meets its contract. Assumes nothing.
-use mathlib.Core.Path.{sym, subst, ◌∙◌}
-use native.Mathlib.Omega.{arith}
-use borrow.Author.Rules.{rules}
-use Rattle.fields.specs.Field.{Short}
-use Rattle.bodies.proofs.FieldLaws.{found_at}
-use Rattle.row_fit.proofs.SeatLaws.{content_small, through_none, through_line, through_broken, through_ended}
+-- `seat::through_cols` meets its contract.
+-- Assumes nothing.
+use Rattle.std.proofs.Common.{rules}
+use Rattle.row_fit.proofs.SeatLaws.{through_ends, through_none, through_line, through_broken}
 use Rattle.row_fit.proofs.seat.through_cols.Goals as goal
 
-pub returns-then-end-p : goal.returns-then-end-p
-returns-then-end-p c =
-    record { cols_bound = search rules; counts_through = through_none _ c.args.at c.args.end c.args.to c.args.width c.args.height c.skip_lines-p.result c.skip_lines-p.ensures.skips_to c.if-end-p.true }
+pub returns-then-seat-le1-clause-counts_through : goal.returns-then-seat-le1-clause-counts_through
+returns-then-seat-le1-clause-counts_through c = through_ends _ c.args.seat c.args.height c.if-seat-le1.true
 
-pub slice_bounds-line_cols-count : goal.slice_bounds-line_cols-count
-slice_bounds-line_cols-count c =
-    let f = found_at _ _ _ _ _ (sym c.field_at-f.ensures.value ∙ c.in-At.is) in omega (arith, f.next_is, f.start_is)
+pub returns-then-is_empty-clause-counts_through : goal.returns-then-is_empty-clause-counts_through
+returns-then-is_empty-clause-counts_through c = through_none _ _ c.args.seat c.args.height c.if-seat-le1.false c.skip_lines-rest.ensures.skips (search rules)
 
-pub slice_bounds-line_cols-start : goal.slice_bounds-line_cols-start
-slice_bounds-line_cols-start c =
-    let f = found_at _ _ _ _ _ (sym c.field_at-f.ensures.value ∙ c.in-At.is) in omega (arith, f.next_is, f.start_is, f.inside)
+pub returns-in_err-line-clause-counts_through : goal.returns-in_err-line-clause-counts_through
+returns-in_err-line-clause-counts_through c =
+    through_broken _ _ c.args.seat c.args.height _ c.skip_lines-rest.ensures.skips (search rules) c.in_err-line.ensures.splits_off
 
-pub slice_bounds-line_cols-end : goal.slice_bounds-line_cols-end
-slice_bounds-line_cols-end c =
-    let f = found_at _ _ _ _ _ (sym c.field_at-f.ensures.value ∙ c.in-At.is) in omega (arith, f.next_is, f.start_is, f.inside)
-
-pub line_cols-requires : goal.line_cols-requires
-line_cols-requires c =
-    (content_small _ _ _ _ _ (found_at _ _ _ _ _ (sym c.field_at-f.ensures.value ∙ c.in-At.is)) (subst Short c.in-At.is c.field_at-f.ensures.short), c.requires.0)
-
-pub returns-in-At : goal.returns-in-At
-returns-in-At c =
-    record { cols_bound = search rules; counts_through = through_line _ c.args.at c.args.end c.args.to c.args.width c.args.height c.skip_lines-p.result _ _ _ c.line_cols.result c.skip_lines-p.ensures.skips_to c.if-end-p.false (sym c.field_at-f.ensures.value ∙ c.in-At.is) c.line_cols.ensures.counts_line }
-
-pub returns-in-Broken : goal.returns-in-Broken
-returns-in-Broken c =
-    record { cols_bound = search rules; counts_through = through_broken _ c.args.at c.args.end c.args.to c.args.width c.args.height c.skip_lines-p.result _ c.skip_lines-p.ensures.skips_to c.if-end-p.false (sym c.field_at-f.ensures.value ∙ c.in-Broken.is) }
-
-pub returns-in-End : goal.returns-in-End
-returns-in-End c =
-    record { cols_bound = search rules; counts_through = through_ended _ c.args.at c.args.end c.args.to c.args.width c.args.height c.skip_lines-p.result _ c.skip_lines-p.ensures.skips_to c.if-end-p.false (sym c.field_at-f.ensures.value ∙ c.in-End.is) }
+pub returns-clause-counts_through : goal.returns-clause-counts_through
+returns-clause-counts_through c =
+    through_line _ _ _ c.in_ok-line.line c.args.seat c.args.height _ c.if-seat-le1.false c.skip_lines-rest.ensures.skips c.in_ok-line.ensures.splits_off c.line_cols.ensures.counts_line

@@ -1,60 +1,34 @@
 -- `line::cut_seat` meets its contract: the pieces of the line there. Assumes nothing.
-use mathlib.Core.Path.{refl}
-use lib.ListN.{length}
-use native.Mathlib.Omega.{arith}
-use borrow.Author.Tests.{not-true, not-false}
-use Rattle.fields.proofs.Parts.{part_length}
-use Rattle.row_holes.proofs.ThroughLaws.{small_laid, cut_there, cut_laid, cut_long}
+use Rattle.std.proofs.Common.{arith}
+use Rattle.row_holes.proofs.ThroughLaws.{spaces_stand, text_stands, border_stands}
+use Rattle.row_holes.proofs.RowLaws.{cuts_none, cuts_there, past_room, cuts_long}
 use Rattle.row_holes.proofs.line.cut_seat.Goals as goal
 
-pub line_through-t-requires : goal.line_through-t-requires
-line_through-t-requires c =
-    (c.requires.0, c.requires.1, c.requires.2, c.requires.3)
+pub returns-then-seat-lt2-clause-cuts_seat : goal.returns-then-seat-lt2-clause-cuts_seat
+returns-then-seat-lt2-clause-cuts_seat c = cuts_none c.args.seat _ _ _ _ _ _ c.if-seat-lt2.true
 
-pub slice_bounds-cut_pieces-count : goal.slice_bounds-cut_pieces-count
-slice_bounds-cut_pieces-count c =
-    c.line_through-t.ensures.laid_len_unchanged.1.order
+pub returns-in-None-clause-cuts_seat : goal.returns-in-None-clause-cuts_seat
+returns-in-None-clause-cuts_seat c =
+    cuts_there c.args.seat _ _ _ _ _ _ _ _ _ c.if-seat-lt2.false (spaces_stand c.args.seat _ _ _ c.in-None.ensures) c.cut_pieces.ensures.cuts_pieces
 
-pub slice_bounds-cut_pieces-start : goal.slice_bounds-cut_pieces-start
-slice_bounds-cut_pieces-start c =
-    omega (arith, c.line_through-t.ensures.laid_len_unchanged.1.order, c.line_through-t.ensures.laid_len_unchanged.1.inside (not-true c.line_through-t.result.laid c.if-not-t.true))
+pub returns-then-line-eq76-clause-cuts_seat : goal.returns-then-line-eq76-clause-cuts_seat
+returns-then-line-eq76-clause-cuts_seat c =
+    let found = rw c.in-Some-Ok.field-0-is at c.in-Some-Ok.ensures in
+    cuts_there c.args.seat _ _ _ _ _ _ _ _ _ c.if-seat-lt2.false (text_stands c.args.seat _ _ _ c.in-Some-Ok.line found c.if-line-eq76.true) c.cut_pieces-then-line-eq76.ensures.cuts_pieces
 
-pub slice_bounds-cut_pieces-end : goal.slice_bounds-cut_pieces-end
-slice_bounds-cut_pieces-end c =
-    omega (arith, c.line_through-t.ensures.laid_len_unchanged.1.order, c.line_through-t.ensures.laid_len_unchanged.1.inside (not-true c.line_through-t.result.laid c.if-not-t.true))
+pub returns-in-Some-clause-cuts_seat : goal.returns-in-Some-clause-cuts_seat
+returns-in-Some-clause-cuts_seat c =
+    let found = rw c.in-Some-Ok.field-0-is at c.in-Some-Ok.ensures in
+    let there = c.in-Some.ensures.lookup.0 in
+    let laid = c.lay_border-end.ensures in
+    cuts_there c.args.seat _ _ _ _ _ _ _ _ _ c.if-seat-lt2.false
+    (border_stands c.args.seat _ _ c.in-Some-Ok.line found c.if-line-eq76.false _ c.of.ensures.reads_border _ _ laid.lays_border _ _
+    (omega (arith, laid.laid_len_unchanged.0, c.requires.1)) there.1 there.2)
+    c.cut_pieces-in-Some.ensures.cuts_pieces
 
-pub cut_pieces-requires : goal.cut_pieces-requires
-cut_pieces-requires c =
-    let e = not-true c.line_through-t.result.laid c.if-not-t.true in
-    (omega (arith, part_length c.line_through-t.result.from c.line_through-t.result.end c.args.s.now (c.line_through-t.ensures.laid_len_unchanged.1.inside e), c.line_through-t.ensures.laid_len_unchanged.1.short e), c.line_through-t.ensures.laid_len_unchanged.1.fill, c.requires.4)
-
-pub returns-then-not-t : goal.returns-then-not-t
-returns-then-not-t c =
-    record { border_len_unchanged = (c.cut_pieces.ensures.border_len_unchanged, c.line_through-t.ensures.laid_len_unchanged.0); cuts_seat = cut_there c.args.s.now c.args.at c.args.end c.args.width c.args.to c.args.collapse c.args.height _ c.line_through-t.result c.line_through-t.ensures.finds_through c.args.annotation c.args.pos _ _ _ _ _ (not-true c.line_through-t.result.laid c.if-not-t.true) c.cut_pieces.ensures.cuts_pieces }
-
-pub returns-then-laid-stop : goal.returns-then-laid-stop
-returns-then-laid-stop c =
-    let e = not-false c.line_through-t.result.laid c.if-not-t.false in
-    record { border_len_unchanged = (refl, c.line_through-t.ensures.laid_len_unchanged.0); cuts_seat = cut_long c.args.s.now c.args.at c.args.end c.args.width c.args.to c.args.collapse c.args.height _ c.line_through-t.result c.line_through-t.ensures.finds_through c.args.annotation c.args.pos _ _ (length c.args.laid.now) e (c.line_through-t.ensures.laid_len_unchanged.1.bare e) (omega (arith, c.if-laid-stop.true, c.line_through-t.ensures.laid_len_unchanged.0)) }
-
-pub slice_bounds-cut_pieces-count-2 : goal.slice_bounds-cut_pieces-count-2
-slice_bounds-cut_pieces-count-2 c =
-    c.line_through-t.ensures.laid_len_unchanged.1.order
-
-pub slice_bounds-cut_pieces-start-2 : goal.slice_bounds-cut_pieces-start-2
-slice_bounds-cut_pieces-start-2 c =
-    omega (arith, c.line_through-t.ensures.laid_len_unchanged.1.order, c.if-laid-stop.false)
-
-pub slice_bounds-cut_pieces-end-2 : goal.slice_bounds-cut_pieces-end-2
-slice_bounds-cut_pieces-end-2 c =
-    omega (arith, c.line_through-t.ensures.laid_len_unchanged.1.order, c.if-laid-stop.false)
-
-pub cut_pieces-requires-2 : goal.cut_pieces-requires-2
-cut_pieces-requires-2 c =
-    let e = not-false c.line_through-t.result.laid c.if-not-t.false in
-    (small_laid c.args.s.now c.args.at c.args.end c.args.width c.args.to c.args.collapse c.args.height _ c.line_through-t.result c.line_through-t.ensures.finds_through c.args.annotation c.args.pos _ e (c.line_through-t.ensures.laid_len_unchanged.1.low e) c.if-laid-stop.false c.line_through-t.ensures.laid_len_unchanged.0 c.requires.5, c.line_through-t.ensures.laid_len_unchanged.1.fill, c.requires.4)
-
-pub returns : goal.returns
-returns c =
-    let e = not-false c.line_through-t.result.laid c.if-not-t.false in
-    record { border_len_unchanged = (c.cut_pieces-2.ensures.border_len_unchanged, c.line_through-t.ensures.laid_len_unchanged.0); cuts_seat = cut_laid c.args.s.now c.args.at c.args.end c.args.width c.args.to c.args.collapse c.args.height _ c.line_through-t.result c.line_through-t.ensures.finds_through c.args.annotation c.args.pos _ _ _ _ _ e (c.line_through-t.ensures.laid_len_unchanged.1.low e) (omega (arith, c.line_through-t.ensures.laid_len_unchanged.0, c.requires.5)) c.if-laid-stop.false c.cut_pieces-2.ensures.cuts_pieces }
+pub returns-in_default-clause-cuts_seat : goal.returns-in_default-clause-cuts_seat
+returns-in_default-clause-cuts_seat c =
+    let found = rw c.in-Some-Ok.field-0-is at c.in-Some-Ok.ensures in
+    let laid = c.lay_border-end.ensures in
+    cuts_long c.args.seat _ _ c.in-Some-Ok.line found c.if-line-eq76.false c.if-seat-lt2.false _ c.of.ensures.reads_border _ _ laid.lays_border _ _ _ _
+    (past_room _ _ _ c.in_default.ensures.lookup.0 laid.laid_len_unchanged.1 laid.laid_len_unchanged.0)

@@ -1,45 +1,22 @@
-use mathlib.Core.Path.{refl, subst, ◌∙◌}
-use native.Mathlib.Omega.{arith}
-use Rattle.slots.specs.Seats.{NextIn, FindsNext}
-use Rattle.row_holes.proofs.RowLaws.{put_start, put_on, put_past, put_end, puts_room, end_in, past_in}
+-- Assumes nothing.
+use Rattle.row_holes.proofs.RowLaws.{put_start, put_on, put_past, put_end}
 use Rattle.row_holes.proofs.row.put_holes.Goals as goal
 
 pub loop-seat-init : goal.loop-seat-init
-loop-seat-init c =
-    (put_start _ _ _ _ _ _ _ _ _ _ c.requires.0 c.requires.2, refl, refl)
-
-pub next_slot-found-requires : goal.next_slot-found-requires
-next_slot-found-requires c =
-    c.loop-seat.invariant.0.low
-
-pub put_one-p-requires : goal.put_one-p-requires
-put_one-p-requires c =
-    ((subst (NextIn _ _ _) c.in-Is.is c.next_slot-found.ensures.next_in).seat_in, c.loop-seat.invariant.0.pos_low, omega (arith, c.loop-seat.invariant.2, c.requires.1), c.loop-seat.invariant.0.on, c.requires.3)
-
-pub returns-then-p : goal.returns-then-p
-returns-then-p c =
-    record { out_len_unchanged = (c.put_one-p.ensures.out_len_unchanged.0 ∙ c.loop-seat.invariant.1, c.put_one-p.ensures.out_len_unchanged.1 ∙ c.loop-seat.invariant.2, past_in _); puts_holes = put_past _ _ c.args.base _ c.args.collapse c.args.height _ _ _ _ c.args.place _ _ _ _ _ _ c.put_one-p.result c.args.base c.loop-seat.invariant.0 (subst (FindsNext _ _ _) c.in-Is.is c.next_slot-found.ensures.finds_next) (puts_room _ _ _ _ _ c.args.base _ _ c.args.collapse c.args.height _ _ _ c.put_one-p.result c.loop-seat.invariant.2 c.put_one-p.ensures.puts_one) c.if-p.true }
-
-pub overflow_add-seat : goal.overflow_add-seat
-overflow_add-seat c =
-    let i = (subst (NextIn _ _ _) c.in-Is.is c.next_slot-found.ensures.next_in).seat_in in omega (arith, i.reaches)
-
-pub advance-pos-requires : goal.advance-pos-requires
-advance-pos-requires c =
-    let i = (subst (NextIn _ _ _) c.in-Is.is c.next_slot-found.ensures.next_in).seat_in in (c.loop-seat.invariant.0.pos_low, omega (arith, i.reaches))
-
-pub loop-seat-smaller : goal.loop-seat-smaller
-loop-seat-smaller c =
-    (subst (NextIn _ _ _) c.in-Is.is c.next_slot-found.ensures.next_in).less
+loop-seat-init c = put_start _ _ _ _ _ _ _ _ c.requires.1
 
 pub loop-seat-preserved : goal.loop-seat-preserved
 loop-seat-preserved c =
-    (put_on _ _ c.args.base _ c.args.collapse c.args.height _ _ _ _ c.args.place _ _ _ _ _ _ c.put_one-p.result _ c.loop-seat.invariant.0 (subst (NextIn _ _ _) c.in-Is.is c.next_slot-found.ensures.next_in) (subst (FindsNext _ _ _) c.in-Is.is c.next_slot-found.ensures.finds_next) (puts_room _ _ _ _ _ c.args.base _ _ c.args.collapse c.args.height _ _ _ c.put_one-p.result c.loop-seat.invariant.2 c.put_one-p.ensures.puts_one) c.if-p.false c.put_one-p.ensures.out_len_unchanged.2 c.advance-pos.ensures.upper_bound c.advance-pos.ensures.advances, c.put_one-p.ensures.out_len_unchanged.0 ∙ c.loop-seat.invariant.1, c.put_one-p.ensures.out_len_unchanged.1 ∙ c.loop-seat.invariant.2)
+    let e = c.in_ok-at.ensures in
+    put_on _ _ _ _ _ _ _ _ _ _ _ _ _ c.in-Some.seat _ _ _ _ _ c.loop-seat.invariant c.in-Some.ensures.steps
+    e.out_len_unchanged.0 e.out_len_unchanged.1 e.out_len_unchanged.2 e.puts_one c.advance-pos.ensures.upper_bound c.advance-pos.ensures.advances
 
-pub overflow_sub-result : goal.overflow_sub-result
-overflow_sub-result c =
-    c.loop-seat.invariant.0.on
+pub returns-in_err-at-clause-puts_holes : goal.returns-in_err-at-clause-puts_holes
+returns-in_err-at-clause-puts_holes c =
+    let begins = rw (← c.into_iter-seat-iterator.ensures.into_iter_gives) at c.iter-seat-items.ensures in
+    put_past _ _ _ _ _ _ _ _ _ _ _ _ _ c.in-Some.seat _ _ c.args.row.now _ c.loop-seat.invariant c.in-Some.ensures.steps c.in_err-at.ensures.puts_one begins c.from_residual.ensures
 
-pub returns-in-NoMore : goal.returns-in-NoMore
-returns-in-NoMore c =
-    record { out_len_unchanged = (c.loop-seat.invariant.1, c.loop-seat.invariant.2, end_in _ _ _ c.loop-seat.invariant.0.on refl); puts_holes = put_end _ _ c.args.base _ c.args.collapse c.args.height _ _ _ _ c.args.place _ _ _ _ _ c.loop-seat.invariant.0 (subst (FindsNext _ _ _) c.in-NoMore.is c.next_slot-found.ensures.finds_next) refl }
+pub returns-clause-puts_holes : goal.returns-clause-puts_holes
+returns-clause-puts_holes c =
+    let begins = rw (← c.into_iter-seat-iterator.ensures.into_iter_gives) at c.iter-seat-items.ensures in
+    put_end _ _ _ _ _ _ _ _ _ _ _ _ _ c.next.new.self c.args.row.now c.loop-seat.invariant c.in-None.ensures.steps begins _ c.then_some.ensures

@@ -5,8 +5,8 @@ use Rattle.row_lines.proofs.seat.add_cell_text.Goals as goal
 
 pub returns-then-used-to : goal.returns-then-used-to
 returns-then-used-to c =
-    record { line_grown = search rules; adds_cell_text = text_filled _ _ _ _ _ _ c.add_pieces-next.ensures.adds_pieces (search rules) _ _ c.args.options _ c.push_ws.ensures.pushes_spaces }
+    record { line_grown = search rules; adds_cell_text = text_filled _ _ _ _ _ _ c.add_pieces-next.ensures.adds_pieces (search rules) _ _ c.args.annotation _ c.push_ws.ensures.pushes_spaces }
 
 pub returns : goal.returns
 returns c =
-    record { line_grown = search rules; adds_cell_text = text_full _ _ _ _ _ _ c.add_pieces-next.ensures.adds_pieces (search rules) c.args.options _ c.if-used-to.false }
+    record { line_grown = search rules; adds_cell_text = text_full _ _ _ _ _ _ c.add_pieces-next.ensures.adds_pieces (search rules) c.args.annotation _ c.if-used-to.false }

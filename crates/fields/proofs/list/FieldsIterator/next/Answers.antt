@@ -13,10 +13,10 @@ returns-then-is_empty-clause-steps c =
 pub returns-in-None-clause-steps : goal.returns-in-None-clause-steps
 returns-in-None-clause-steps c =
     let some : 0 < length c.args.self.now.rest.now = grind (arith, nat_tests) in
-    rw raws_nil (c.in-None.ensures some)
+    rw raws_nil (c.in-None.ensures.splits_off some)
 
 pub returns-in-None-clause-goes : goal.returns-in-None-clause-goes
 returns-in-None-clause-goes c =
     let some : 0 < length c.args.self.now.rest.now = grind (arith, nat_tests) in
-    let e = c.in-None.ensures some in
+    let e = c.in-None.ensures.splits_off some in
     record { on = λ f. (tt, tt, rw (e, raws_nil) (omega arith)); keeps = tt; rests = λ f. tt }

@@ -1,8 +1,0 @@
--- `pieces::put_space_hole` meets its contract: the writes are one. Assumes nothing.
-use Rattle.fields.proofs.Sets.{wrote_then}
-use borrow.Author.Rules.{rules}
-use Rattle.row_holes.proofs.pieces.put_space_hole.Goals as goal
-
-pub returns : goal.returns
-returns c =
-    record { out_len_unchanged = search rules; wrote = wrote_then c.put_two-column.ensures (wrote_then c.put_head-start.ensures (wrote_then c.put_byte-text.ensures c.put_repeat.ensures)) }
