@@ -1,4 +1,4 @@
--- Characters, blanks and names at a word's end, over the flat block, and the state's numbers after them.
+-- Characters, blanks and names at a word's end, over the flat block.
 -- Assumes nothing.
 use mathlib.Core.Path.{◌≡◌, refl, sym, ap, subst, ◌∙◌}
 use mathlib.Core.Bool.{Bool, true, false, and-false}
@@ -20,17 +20,15 @@ use Rattle.block.specs.Flat.{char, name, Line, columns, has_text, flat_push_char
 use Rattle.block.specs.TrimsLeaveText.{TrimsLeaveText}
 use Rattle.block.proofs.NonSpaces.{trims_blanks, trims_keep, trims_element, text_name}
 use Rattle.block.proofs.Width.{columns_append}
-use Rattle.lines.specs.Items.{Item, item, mark_tag, name_tag, items}
+use Rattle.lines.specs.Items.{Item, item, mark_tag, name_tag, Entries}
 use Rattle.lines.specs.Bridge.{num, tagged, enc, text}
 use Rattle.lines.proofs.Encoded.{enc_append, enc_text, valid_append, valid_text}
 use Rattle.lines.proofs.HardWrap.{columns_text}
 use Rattle.hard_wrap.specs.Hold.{Holds}
-use Rattle.hard_wrap.specs.declared.line.Frame.{Frame}
-use Rattle.hard_wrap.specs.declared.line.Open.{Open}
-use Rattle.flush_word.specs.Keep.{Keeps, CountsWithinUnits}
-use Rattle.flush_word.specs.declared.state.State.{State}
-use Rattle.add_chars.specs.Chars.{AmongUnits, PushesChars, PushesWord, KeepsBlank, Collapses}
-use Rattle.add_chars.specs.Chars.{AddsElement}
+use Rattle.hard_wrap.specs.declared.line.OpenLine.{OpenLine}
+use Rattle.flush_word.specs.Keep.{Keeps}
+use Rattle.flush_word.specs.declared.state.WrappedBlock.{WrappedBlock}
+use Rattle.add_chars.specs.Chars.{PushesChars, PushesWord, KeepsBlank, Collapses, AddsElement}
 use Rattle.block.proofs.Same.{cols_of}
 
 -- ---- columns
@@ -74,133 +72,80 @@ columns_name : (l : Line) (n : List ℕ) → columns (l ++ (name n ∷ [])) ≡ 
 unfolding columns
 columns_name l n = let e : columns (l ++ (name n ∷ [])) ≡ columns l + 0 = columns_append l (name n ∷ []) in omega arith
 
--- ---- the state with another word, and with other blanks
+-- ---- the block with another word, and with other blanks
 
-abbrev pub with_chars : State → ℕ → ℕ → Bool → ℕ → State
-with_chars st n cols wrapped used =
-    record { line = st.line; word = record { n = n; cols = cols; text = true }; blanks = st.blanks; wrapped = wrapped; used = used }
+abbrev pub with_chars : WrappedBlock → Entries → ℕ → Bool → ℕ → WrappedBlock
+with_chars o e cols wrapped used =
+    record { line = o.line; word = record { entries = e; cols = cols; has_text = true }; blanks = o.blanks; wrapped = wrapped; used = used }
 
-abbrev pub with_end : State → ℕ → ℕ → Bool → ℕ → State
-with_end st n cols text used =
-    record { line = st.line; word = record { n = n; cols = cols; text = text }; blanks = st.blanks; wrapped = st.wrapped; used = used }
+abbrev pub with_end : WrappedBlock → Entries → ℕ → WrappedBlock
+with_end o e used =
+    record { line = o.line; word = record { entries = e; cols = o.word.cols; has_text = o.word.has_text }; blanks = o.blanks; wrapped = o.wrapped; used = used }
 
-abbrev pub with_pending : State → ℕ → ℕ → ℕ → State
-with_pending st count tag used =
-    record { line = st.line; word = st.word; blanks = record { count = count; tag = tag }; wrapped = st.wrapped; used = used }
+abbrev pub with_pending : WrappedBlock → ℕ → ℕ → ℕ → WrappedBlock
+with_pending o count tag used =
+    record { line = o.line; word = o.word; blanks = record { count = count; tag = tag }; wrapped = o.wrapped; used = used }
 
--- The numbers after characters of a word.
-pub small_push : (frame : Frame) (st : State) (m cols n : ℕ) (wrapped : Bool) → n ≡ st.word.n + m → CountsWithinUnits frame st → AmongUnits st m cols
-    → CountsWithinUnits frame (with_chars st n (st.word.cols + cols) wrapped (st.used + m))
-small_push frame st m cols n wrapped e h f =
-    record {
-      used = f.units;
-      word = omega arith;
-      line = omega arith;
-      cols = h.cols;
-      wide = omega arith;
-      text = λ _. omega arith;
-      place = omega arith;
-      lines = h.lines;
-    }
-
--- The numbers after blanks of no more columns than bytes.
-pub small_pend : (frame : Frame) (st : State) (m count tag : ℕ) → count ≤ st.blanks.count + m → st.used + m ≤ 4096 → CountsWithinUnits frame st
-    → CountsWithinUnits frame (with_pending st count tag (st.used + m))
-small_pend frame st m count tag e u h =
-    record {
-      used = u;
-      word = omega arith;
-      line = omega arith;
-      cols = h.cols;
-      wide = h.wide;
-      text = h.text;
-      place = omega arith;
-      lines = h.lines;
-    }
-
--- The numbers after a name of m bytes.
-pub small_name : (frame : Frame) (st : State) (m n : ℕ) → n ≡ st.word.n + 1 + m → st.used + 1 + m ≤ 4096 → CountsWithinUnits frame st
-    → CountsWithinUnits frame (with_end st n st.word.cols st.word.text (st.used + 1 + m))
-small_name frame st m n e u h =
-    record {
-      used = u;
-      word = omega arith;
-      line = omega arith;
-      cols = h.cols;
-      wide = omega arith;
-      text = λ _. omega arith;
-      place = omega arith;
-      lines = h.lines;
-    }
-
--- the line is held whatever the word and the blanks
-holds_word : {d₀ : List ℕ} {base : ℕ} {b : Block} {st : Open} {lb lt out : List ℕ} (w : Line) → Holds d₀ base b st lb lt out
-    → Holds d₀ base (with_word w b) st lb lt out
+-- the line is held whatever the word, the blanks and the flag
+holds_word : {d₀ : List ℕ} {base : ℕ} {b : Block} {l : OpenLine} (w : Line) → Holds d₀ base b l → Holds d₀ base (with_word w b) l
 holds_word w o = record { line = o.line; valid = o.valid; cols = o.cols; store = o.store; place = o.place; lines = o.lines }
 
-holds_blanks : {d₀ : List ℕ} {base : ℕ} {b : Block} {st : Open} {lb lt out : List ℕ} (n : ℕ) (t : Option Tag) → Holds d₀ base b st lb lt out
-    → Holds d₀ base (with_blanks n t b) st lb lt out
+holds_chars : {d₀ : List ℕ} {base : ℕ} {b : Block} {l : OpenLine} (w : Line) (p : Bool) → Holds d₀ base b l → Holds d₀ base (with_word w (with_wrapped p b)) l
+holds_chars w p o = record { line = o.line; valid = o.valid; cols = o.cols; store = o.store; place = o.place; lines = o.lines }
+
+holds_blanks : {d₀ : List ℕ} {base : ℕ} {b : Block} {l : OpenLine} (n : ℕ) (t : Option Tag) → Holds d₀ base b l → Holds d₀ base (with_blanks n t b) l
 holds_blanks n t o = record { line = o.line; valid = o.valid; cols = o.cols; store = o.store; place = o.place; lines = o.lines }
 
 -- The same is kept of an equal block.
-pub keeps_same : {d₀ : List ℕ} {base : ℕ} {x y : Block} {st : State} {lb lt wb wt out : List ℕ} → x ≡ y
-    → Keeps d₀ base x st lb lt wb wt out → Keeps d₀ base y st lb lt wb wt out
-keeps_same {d₀} {base} {x} {y} {st} {lb} {lt} {wb} {wt} {out} e h = subst (λ (b : Block). Keeps d₀ base b st lb lt wb wt out) e h
+pub keeps_same : {d₀ : List ℕ} {base : ℕ} {x y : Block} {o : WrappedBlock} → x ≡ y → Keeps d₀ base x o → Keeps d₀ base y o
+keeps_same {d₀} {base} {x} {y} {o} e h = subst (λ (b : Block). Keeps d₀ base b o) e h
 
 -- ---- steps
 
--- the line is held whatever the word and the flag
-holds_chars : {d₀ : List ℕ} {base : ℕ} {b : Block} {st : Open} {lb lt out : List ℕ} (w : Line) (p : Bool) → Holds d₀ base b st lb lt out
-    → Holds d₀ base (with_word w (with_wrapped p b)) st lb lt out
-holds_chars w p o = record { line = o.line; valid = o.valid; cols = o.cols; store = o.store; place = o.place; lines = o.lines }
+module _ (o : WrappedBlock) (e : Entries) where
+  -- The bytes of characters are put at the word's end.
+  pub pushes : (part : List ℕ) (n tag : ℕ) (wrapped : Bool) (used : ℕ) → 0 < length part → e.items ≡ o.word.entries.items ++ tagged tag part
+      → PushesChars o part n tag wrapped (with_chars o e (o.word.cols + n) wrapped used)
+  pushes part n tag wrapped used pos i d₀ base b cs t h s p w ta ann nw =
+      record {
+        line = holds_chars (b.word ++ text t cs) wrapped h.line;
+        word = i ∙ rw (h.word, ta, p) (sym (enc_append b.word (text t cs) ∙ ap (λ (x : List Item). enc b.word ++ x) (enc_text t cs)));
+        valid = valid_append b.word (text t cs) h.valid (valid_text t cs ann s);
+        cols = (let i = h.cols in omega (arith, columns_append b.word (text t cs), columns_text t cs, w));
+        text = sym (text_chars b.word t cs (rw p at pos));
+        count = h.count;
+        pends = h.pends;
+        wrapped = refl;
+        trims = record { line = h.trims.line; word = nw };
+      }
 
--- The bytes of characters are put at the word's end.
-pub pushes : (st : State) (part : List ℕ) (n tag : ℕ) (wrapped : Bool) (wb wt wb' wt' : List ℕ) (k used : ℕ) → 0 < length part
-    → items wb' wt' k ≡ items wb wt st.word.n ++ tagged tag part
-    → PushesChars st part n tag wrapped wb wt (with_chars st k (st.word.cols + n) wrapped used) wb' wt'
-pushes st part n tag wrapped wb wt wb' wt' k used pos e d₀ base b cs t lb lt out h s p w ta ann nw =
-    record {
-      line = holds_chars (b.word ++ text t cs) wrapped h.line;
-      word = e ∙ rw (h.word, ta, p) (sym (enc_append b.word (text t cs) ∙ ap (λ (x : List Item). enc b.word ++ x) (enc_text t cs)));
-      valid = valid_append b.word (text t cs) h.valid (valid_text t cs ann s);
-      cols = (let i = h.cols in omega (arith, columns_append b.word (text t cs), columns_text t cs, w));
-      text = sym (text_chars b.word t cs (rw p at pos));
-      count = h.count;
-      pends = h.pends;
-      wrapped = refl;
-      trims = record { line = h.trims.line; word = nw };
-    }
+  -- A name's mark and bytes are put at the word's end.
+  pub adds_name : (m : Entries) (n : List ℕ) (used : ℕ) → m.items ≡ o.word.entries.items ++ (item 0 mark_tag ∷ []) → e.items ≡ m.items ++ tagged name_tag n
+      → AddsElement o n (with_end o e used)
+  unfolding flat_add_element
+  adds_name m n used i f d₀ base b h =
+      record {
+        line = holds_word (b.word ++ (name n ∷ [])) h.line;
+        word = f ∙ rw (i, h.word) (sym (enc_name b.word n));
+        valid = valid_append b.word (name n ∷ []) h.valid tt;
+        cols = h.cols ∙ sym (columns_name b.word n);
+        text = h.text ∙ sym (text_name b.word n);
+        count = h.count;
+        pends = h.pends;
+        wrapped = h.wrapped;
+        trims = trims_element n b h.trims;
+      }
 
 -- One character is put so.
-pub pushes_one : (st : State) (part : List ℕ) (n tag : ℕ) (wb wt : List ℕ) (r : State) (wb' wt' : List ℕ)
-    → PushesChars st part n tag st.wrapped wb wt r wb' wt' → PushesWord st part n tag wb wt r wb' wt'
+pub pushes_one : (o r : WrappedBlock) (part : List ℕ) (n tag : ℕ) → PushesChars o part n tag o.wrapped r → PushesWord o part n tag r
 unfolding text_bytes str_width flat_push_char
-pushes_one st part n tag wb wt r wb' wt' f d₀ base b c t lb lt out h s p w ta ann nw =
+pushes_one o r part n tag f d₀ base b c t h s p w ta ann nw =
     keeps_same (ap (λ (x : Bool). with_word (b.word ++ (char c t ∷ [])) (with_wrapped x b)) h.wrapped)
-    (f d₀ base b (c ∷ []) t lb lt out h (s, tt) (p ∙ sym (append-nil (utf8 c))) (omega (arith, cols_of c n w)) ta ann nw)
-
--- A name's mark and bytes are put at the word's end.
-pub adds_name : (st : State) (n : List ℕ) (wb wt wb₁ wt₁ wb' wt' : List ℕ) (j k used : ℕ)
-    → items wb₁ wt₁ j ≡ items wb wt st.word.n ++ (item 0 mark_tag ∷ []) → items wb' wt' k ≡ items wb₁ wt₁ j ++ tagged name_tag n
-    → AddsElement st n wb wt (with_end st k st.word.cols st.word.text used) wb' wt'
-unfolding flat_add_element
-adds_name st n wb wt wb₁ wt₁ wb' wt' j k used e f d₀ base b lb lt out h =
-    record {
-      line = holds_word (b.word ++ (name n ∷ [])) h.line;
-      word = f ∙ rw (e, h.word) (sym (enc_name b.word n));
-      valid = valid_append b.word (name n ∷ []) h.valid tt;
-      cols = h.cols ∙ sym (columns_name b.word n);
-      text = h.text ∙ sym (text_name b.word n);
-      count = h.count;
-      pends = h.pends;
-      wrapped = h.wrapped;
-      trims = trims_element n b h.trims;
-    }
+    (f d₀ base b (c ∷ []) t h (s, tt) (p ∙ sym (append-nil (utf8 c))) (omega (arith, cols_of c n w)) ta ann nw)
 
 -- blanks that pend
-pends_now : {d₀ : List ℕ} {base : ℕ} {b : Block} {st : State} {lb lt wb wt out : List ℕ} {tag : ℕ} {t : Tag} (n count used : ℕ)
-    → count ≡ n → 0 < n → tag ≡ num t → t.ann < 256 → Keeps d₀ base b st lb lt wb wt out
-    → Keeps d₀ base (with_blanks n (some t) b) (with_pending st count tag used) lb lt wb wt out
+pends_now : {d₀ : List ℕ} {base : ℕ} {b : Block} {o : WrappedBlock} {tag : ℕ} {t : Tag} (n count used : ℕ)
+    → count ≡ n → 0 < n → tag ≡ num t → t.ann < 256 → Keeps d₀ base b o → Keeps d₀ base (with_blanks n (some t) b) (with_pending o count tag used)
 pends_now {b = b} {t = t} n count used e pos ta ann h =
     record {
       line = holds_blanks n (some t) h.line;
@@ -223,21 +168,20 @@ module _ (n c : ℕ) (t : Tag) (b : Block) where
   unfolding keep_blank
   keep_pends e = rw e
 
--- A blank that is kept joins a word with text.
-pub keeps_joins : (st : State) (part : List ℕ) (n tag : ℕ) (wb wt : List ℕ) (r : State) (wb' wt' : List ℕ) → st.word.text ≡ true
-    → PushesWord st part n tag wb wt r wb' wt' → KeepsBlank st part n tag wb wt r wb' wt'
-keeps_joins st part n tag wb wt r wb' wt' e f d₀ base b c t lb lt out h s p w pos ta ann =
-    let q = keep_joins n c t b (sym h.text ∙ e) in
-    let k : TrimsLeaveText (with_word (flat_push_char b.word c t) b) = subst TrimsLeaveText q (trims_keep (some n) c t b h.trims) in
-    keeps_same (sym q) (f d₀ base b c t lb lt out h s p w ta ann k.word)
+module _ (o : WrappedBlock) (part : List ℕ) (n tag : ℕ) where
+  -- A blank that is kept joins a word with text.
+  pub keeps_joins : (r : WrappedBlock) → o.word.has_text ≡ true → PushesWord o part n tag r → KeepsBlank o part n tag r
+  keeps_joins r e f d₀ base b c t h s p w pos ta ann =
+      let q = keep_joins n c t b (sym h.text ∙ e) in
+      let k : TrimsLeaveText (with_word (flat_push_char b.word c t) b) = subst TrimsLeaveText q (trims_keep (some n) c t b h.trims) in
+      keeps_same (sym q) (f d₀ base b c t h s p w ta ann k.word)
 
--- A blank that is kept pends after a word without text.
-pub keeps_pends : (st : State) (part : List ℕ) (n tag : ℕ) (wb wt : List ℕ) (used : ℕ) → st.word.text ≡ false
-    → KeepsBlank st part n tag wb wt (with_pending st (st.blanks.count + n) tag used) wb wt
-keeps_pends st part n tag wb wt used e d₀ base b c t lb lt out h s p w pos ta ann =
-    let i = h.count in
-    keeps_same (sym (keep_pends n c t b (sym h.text ∙ e)))
-    (pends_now (b.wslen + n) (st.blanks.count + n) used (omega arith) (omega arith) ta ann h)
+  -- A blank that is kept pends after a word without text.
+  pub keeps_pends : (used : ℕ) → o.word.has_text ≡ false → KeepsBlank o part n tag (with_pending o (o.blanks.count + n) tag used)
+  keeps_pends used e d₀ base b c t h s p w pos ta ann =
+      let i = h.count in
+      keeps_same (sym (keep_pends n c t b (sym h.text ∙ e)))
+      (pends_now (b.wslen + n) (o.blanks.count + n) used (omega arith) (omega arith) ta ann h)
 
 module _ (t : Tag) (b : Block) where
   collapse_start : columns b.line ≡ 0 → collapse t b ≡ b
@@ -252,18 +196,18 @@ module _ (t : Tag) (b : Block) where
   unfolding collapse
   collapse_one h e = rw (lt-ltb 0 (columns b.line) h, eq-eqb b.wslen 0 e)
 
-module _ (st : State) (tag : ℕ) where
+module _ (o : WrappedBlock) (tag : ℕ) where
   -- A blank at a line's start is dropped.
-  pub collapses_start : st.line.cols ≡ 0 → Collapses st tag st
-  collapses_start e d₀ base b t lb lt wb wt out h ta ann = keeps_same (sym (collapse_start t b (sym h.line.cols ∙ e))) h
+  pub collapses_start : o.line.cols ≡ 0 → Collapses o tag o
+  collapses_start e d₀ base b t h ta ann = keeps_same (sym (collapse_start t b (sym h.line.cols ∙ e))) h
 
   -- A blank after another is dropped.
-  pub collapses_pending : (st.blanks.count ≡ 0 → ⊥) → Collapses st tag st
-  collapses_pending e d₀ base b t lb lt wb wt out h ta ann = keeps_same (sym (collapse_pending t b (λ k. e (h.count ∙ k)))) h
+  pub collapses_pending : (o.blanks.count ≡ 0 → ⊥) → Collapses o tag o
+  collapses_pending e d₀ base b t h ta ann = keeps_same (sym (collapse_pending t b (λ k. e (h.count ∙ k)))) h
 
   -- The first blank after columns pends, as one.
-  pub collapses_one : (used : ℕ) → 0 < st.line.cols → st.blanks.count ≡ 0 → Collapses st tag (with_pending st 1 tag used)
-  collapses_one used l e d₀ base b t lb lt wb wt out h ta ann =
+  pub collapses_one : (used : ℕ) → 0 < o.line.cols → o.blanks.count ≡ 0 → Collapses o tag (with_pending o 1 tag used)
+  collapses_one used l e d₀ base b t h ta ann =
       let i = h.count in
       let j = h.line.cols in
       keeps_same (sym (collapse_one t b (omega arith) (omega arith))) (pends_now 1 1 used refl (omega arith) ta ann h)

@@ -1,6 +1,6 @@
 -- What one character does to the flat walk, by the cases of the code, and the walk over a text's characters.
 -- Assumes nothing.
-use mathlib.Core.Path.{◌≡◌, refl, sym, ◌∙◌}
+use mathlib.Core.Path.{◌≡◌, refl, sym, ap, subst, ◌∙◌}
 use mathlib.Core.Bool.{Bool, true, false}
 use mathlib.Core.Option.{some}
 use mathlib.Core.List.{List, [], ◌∷◌}
@@ -10,154 +10,134 @@ use borrow.Author.Tests.{eq-eqb, ne_eqb}
 use lib.ListN.{length, take, drop}
 use lib.Seq.{length-take-le, drop-drop}
 use Rattle.std.specs.Prelude.{Result, Ok, Err, IsErr, if◌then◌else◌}
+use Rattle.std.specs.Prelude as rust
 use Rattle.std.proofs.lemmas.Result.{MatchResult-from_err}
 use Rattle.characters.specs.Columns.{width_of}
 use Rattle.characters.specs.Whitespace.{always_takes_space}
 use Rattle.characters.specs.Utf8.{char, decode_of, chars}
-use Rattle.std.specs.Prelude as rust
 use Rattle.characters.proofs.Tests.{by_if}
 use Rattle.characters.proofs.RoundTrip.{decode_sound, decode_size, chars_nil, chars_step, chars_bad, some_cons}
-use Rattle.fields.specs.Job.{Mode, normal, pre, pre_wrap}
+use Rattle.fields.specs.Job.{Mode}
 use Rattle.fields.specs.declared.job.Setup.{Setup}
 use Rattle.fields.proofs.Texts.{rest}
 use Rattle.block.specs.Tag.{tag, keeps_space}
-use Rattle.block.specs.Result.{good, too_narrow, ◌>>=◌}
-use Rattle.block.specs.Flat.{Block, walk, flat_flush_word, newline, tab, keep_blank, collapse, add_blank, add_word_char, flat_add_char, break_word, step, steps, flat_add_text}
-use Rattle.block.specs.Flat as flat
-use Rattle.lines.specs.Bridge.{mode_no}
+use Rattle.block.specs.Result.{Result as FlatResult, good, too_narrow, ◌>>=◌}
+use Rattle.block.specs.Flat.{Block, Walk, walk, flat_flush_word, newline, tab, keep_blank, collapse, add_blank, add_word_char, flat_add_char, break_word, step, steps, flat_add_text}
+use Rattle.lines.specs.Bridge.{num}
 use Rattle.hard_wrap.specs.Hold.{setup}
 use Rattle.hard_wrap.specs.declared.error.TooNarrow.{TooNarrow}
 use Rattle.hard_wrap.specs.declared.line.Frame.{Frame}
-use Rattle.flush_word.specs.Keep.{Keeps, CountsWithinUnits, BuffersLongEnough, NextBlock}
-use Rattle.flush_word.specs.declared.state.State.{State}
-use Rattle.add_text.specs.Walks.{RunSmall, Ready, WalkedSmall, WalkSmall, CharIs, RunIs, WalkKeeps, NextWalk}
-use Rattle.add_text.specs.Walks.{AddsNewline, AddsTab, AddsKept, AddsCollapsed, AddsWordChar, BreaksWord, AddsBlank, PutsChar, AddsChar, AddsText}
-use Rattle.add_text.specs.Runs.{AddsPlain}
-use Rattle.add_text.specs.declared.text.Run.{Run}
-use Rattle.add_text.specs.declared.walk.Walk.{Walk}
-use Rattle.add_text.specs.declared.runs.Past.{Past}
 use Rattle.hard_wrap.proofs.Walks.{part_len}
+use Rattle.flush_word.specs.Modes.{mode}
+use Rattle.flush_word.specs.Keep.{Keeps, CountsWithinUnits, BuffersLongEnough, BlockStays, NextBlock}
+use Rattle.flush_word.specs.declared.state.WrappedBlock.{WrappedBlock}
+use Rattle.flush_word.specs.declared.white_space.WhiteSpace.{WhiteSpace}
+use Rattle.flush_word.specs.declared.white_space.WhiteSpace.TheVariants.{Normal, Pre, PreWrap}
+use Rattle.add_chars.specs.Chars.{Collapses}
+use Rattle.add_text.specs.Walks.{RunSmall, Ready, WalkedSmall, WalkSmall, CharIs, WalkKeeps, NextWalk, WalkIs}
+use Rattle.add_text.specs.Walks.{AddsNewline, AddsTab, AddsKept, AddsWordChar, BreaksWord, AddsBlank, PutsChar, AddsChar, AddsText}
+use Rattle.add_text.specs.Runs.{PastIs, AddsPlain}
+use Rattle.add_text.specs.declared.text.Run.{Run}
+use Rattle.add_text.specs.declared.runs.Past.{Past}
+use Rattle.add_text.proofs.Breaking.{tag_is}
 
 -- ---- numbers
 
--- More units may be behind.
-pub walked_more : {frame : Frame} {w : Walk} {m n : ℕ} → m ≤ n → WalkedSmall frame w m → WalkedSmall frame w n
-walked_more h x = record { small = x.small; ann = x.ann; used = omega (arith, h, x.used) }
+-- More units may be behind after any answer.
+pub walk_more : (m n : ℕ) (x : Result ℕ TooNarrow) (r : WrappedBlock) → m ≤ n → WalkSmall m x r → WalkSmall n x r
+walk_more m n (Ok a) r h x = record { small = x.small; ann = x.ann; used = omega (arith, h, x.used) }
+walk_more m n (Err e) r h x = tt
 
--- So may they after any answer.
-pub walk_more : (frame : Frame) (m n : ℕ) (r : Result Walk TooNarrow) → m ≤ n → WalkSmall frame m r → WalkSmall frame n r
-walk_more frame m n (Ok w) h x = walked_more h x
-walk_more frame m n (Err e) h x = tt
+-- ---- what stays
 
--- What is ready for a character is ready for one byte.
-pub ready_one : {frame : Frame} {w : Walk} {m : ℕ} → Ready frame w m → Ready frame w 1
-ready_one x = record { small = x.small; ann = x.ann; some = omega arith; units = omega (arith, x.some, x.units) }
-
--- A flush leaves what is ready so.
-pub ready_next : (frame : Frame) (w : Walk) (m : ℕ) (st : State) → Ready frame w m → CountsWithinUnits frame st × (st.used ≡ w.st.used)
-    → Ready frame (record { st = st; ann = w.ann }) m
-ready_next frame w m st x y =
-    record { small = y.0; ann = x.ann; some = x.some; units = omega (arith, y.1, x.units) }
-
--- The numbers after a character that follows a flush.
-pub walk_next : (frame : Frame) (used m : ℕ) (st : State) (r : Result Walk TooNarrow) → CountsWithinUnits frame st × (st.used ≡ used) → WalkSmall frame (st.used + m) r
-    → WalkSmall frame (used + m) r
-walk_next frame used m st r y x =
-    walk_more frame (st.used + m) (used + m) r (omega (arith, y.1)) x
-
--- Buffers of the same lengths are lent as well.
-pub lent_same : {frame : Frame} {a b c d a' b' c' d' : ℕ} → BuffersLongEnough frame a b c d → a' ≡ a → b' ≡ b → c' ≡ c → d' ≡ d → BuffersLongEnough frame a' b' c' d'
-lent_same x p q r s =
+-- What a step leaves as it was and what the next one leaves.
+pub stays_on : {o l r : WrappedBlock} → BlockStays o l → BlockStays l r → BlockStays o r
+stays_on x y =
     record {
-      positive = x.positive;
-      small = x.small;
-      default = x.default;
-      lb = omega (arith, x.lb, p);
-      lt = omega (arith, x.lt, q);
-      wb = omega (arith, x.wb, r);
-      wt = omega (arith, x.wt, s);
+      line = record { frame = y.line.frame ∙ x.line.frame; room = y.line.room ∙ x.line.room; store = y.line.store ∙ x.line.store };
+      word = y.word ∙ x.word;
     }
 
--- The buffers of the word are lent alone.
-pub lent_word : {frame : Frame} {a b c d : ℕ} → BuffersLongEnough frame a b c d → BuffersLongEnough frame 4608 4608 c d
-lent_word x =
+-- The buffers stay long enough.
+pub buffers_stay : {o l : WrappedBlock} → BlockStays o l → BuffersLongEnough o → BuffersLongEnough l
+buffers_stay x b =
     record {
-      positive = x.positive;
-      small = x.small;
-      default = x.default;
-      lb = omega arith;
-      lt = omega arith;
-      wb = x.wb;
-      wt = x.wt;
+      positive = rw x.line.frame b.positive;
+      small = rw x.line.frame b.small;
+      default = rw x.line.frame b.default;
+      line = rw x.line.room b.line;
+      word = rw x.word b.word;
     }
 
 -- ---- white space
 
 -- a mode that is not Normal keeps white space
-keeps_space_lem : (m : Mode) → (mode_no m ≡ 0 → ⊥) → keeps_space m ≡ true
-keeps_space_lem normal h = absurd (h refl)
-keeps_space_lem pre h = refl
-keeps_space_lem pre_wrap h = refl
+keeps_space_lem : (w : WhiteSpace) → (w ≡ Normal → ⊥) → keeps_space (mode w) ≡ true
+keeps_space_lem Normal h = absurd (h refl)
+keeps_space_lem Pre h = refl
+keeps_space_lem PreWrap h = refl
 
--- in Normal it collapses
-blank_normal : (s : Setup) (m : Mode) (main c : ℕ) (v : flat.Walk) → mode_no m ≡ 0
-    → add_blank s m main c v ≡ good (walk (collapse (tag v.ann normal) v.block) v.ann)
-unfolding add_blank
-blank_normal s normal main c v e = refl
-blank_normal s pre main c v e = absurd (omega (arith, e))
-blank_normal s pre_wrap main c v e = absurd (omega (arith, e))
-
-module _ (s : Setup) (m : Mode) (main c : ℕ) (v : flat.Walk) (h : mode_no m ≡ 0 → ⊥) where
-  -- LF
-  blank_lf : c ≡ 0x0A → add_blank s m main c v ≡ (flat_flush_word s v.block >>= λ b. good (walk (newline s b) main))
+module _ (s : Setup) (m : Mode) (main c : ℕ) (v : Walk) where
+  -- in Normal it collapses
+  blank_normal : keeps_space m ≡ false → add_blank s m main c v ≡ good (walk (collapse (tag v.ann m) v.block) v.ann)
   unfolding add_blank
-  blank_lf e = rw (keeps_space_lem m h, eq-eqb c 0x0A e)
+  blank_normal e = rw e
 
-  -- a tab
-  blank_tab : (c ≡ 0x0A → ⊥) → c ≡ 0x09 → add_blank s m main c v ≡ (flat_flush_word s v.block >>= λ b. good (walk (tab s (tag v.ann m) b) v.ann))
-  unfolding add_blank
-  blank_tab f e = rw (keeps_space_lem m h, ne_eqb c 0x0A f, eq-eqb c 0x09 e)
+  module _ (k : keeps_space m ≡ true) where
+    -- LF
+    blank_lf : c ≡ 0x0A → add_blank s m main c v ≡ (flat_flush_word s v.block >>= λ b. good (walk (newline s b) main))
+    unfolding add_blank
+    blank_lf e = rw (k, eq-eqb c 0x0A e)
 
-  -- another blank
-  blank_other : (c ≡ 0x0A → ⊥) → (c ≡ 0x09 → ⊥) → add_blank s m main c v ≡ good (walk (keep_blank (width_of c) c (tag v.ann m) v.block) v.ann)
-  unfolding add_blank
-  blank_other f g = rw (keeps_space_lem m h, ne_eqb c 0x0A f, ne_eqb c 0x09 g)
+    -- a tab
+    blank_tab : (c ≡ 0x0A → ⊥) → c ≡ 0x09 → add_blank s m main c v ≡ (flat_flush_word s v.block >>= λ b. good (walk (tab s (tag v.ann m) b) v.ann))
+    unfolding add_blank
+    blank_tab f e = rw (k, ne_eqb c 0x0A f, eq-eqb c 0x09 e)
 
-module _ (frame : Frame) (run : Run) (w : Walk) (code : ℕ) (lb lt wb wt out : List ℕ) where
+    -- another blank
+    blank_other : (c ≡ 0x0A → ⊥) → (c ≡ 0x09 → ⊥) → add_blank s m main c v ≡ good (walk (keep_blank (width_of c) c (tag v.ann m) v.block) v.ann)
+    unfolding add_blank
+    blank_other f g = rw (k, ne_eqb c 0x0A f, ne_eqb c 0x09 g)
+
+-- an equal flat result has the same in the code
+walk_is_same : (d₀ : List ℕ) (base : ℕ) (x : Result ℕ TooNarrow) (r : WrappedBlock) {y z : FlatResult Walk} → y ≡ z → WalkIs z d₀ base x r → WalkIs y d₀ base x r
+walk_is_same d₀ base x r e h = subst (λ (q : FlatResult Walk). WalkIs q d₀ base x r) (sym e) h
+
+module _ (o : WrappedBlock) (run : Run) (a code : ℕ) where
   -- White space collapses in Normal.
-  pub blank_collapses : (r : Walk) → run.mode ≡ 0 → AddsCollapsed w r → AddsBlank frame run w code lb lt wb wt out (Ok r) lb lt wb wt out
-  blank_collapses r e f space d₀ base v m main wrap k i =
+  pub blank_collapses : (t : ℕ) (r : WrappedBlock) → run.mode ≡ Normal → t ≡ num (tag a (mode run.mode)) → a < 256 → Collapses o t r
+      → AddsBlank o run a code (Ok a) r
+  blank_collapses t r e ta b f = λ d₀ base v k sp.
+      let m = mode run.mode in
       record {
-        walk = walk (collapse (tag v.ann normal) v.block) v.ann;
-        is = blank_normal (setup frame) m main code v (sym i.mode ∙ e);
-        keeps = f d₀ base v lb lt wb wt out k;
+        walk = walk (collapse (tag v.ann m) v.block) v.ann;
+        is = blank_normal (setup o.line.frame) m run.main code v (ap (λ (w : WhiteSpace). keeps_space (mode w)) e);
+        keeps = record { keeps = f d₀ base v.block (tag v.ann m) k.keeps (tag_is m v.ann ta k.ann) (omega (arith, k.ann)); ann = k.ann };
       }
 
-  -- LF closes the line.
-  pub blank_closes : (r : Result Walk TooNarrow) (lb' lt' out' : List ℕ) → (run.mode ≡ 0 → ⊥) → code ≡ 0x0A → AddsNewline frame run w.st lb lt wb wt out r lb' lt' out'
-      → AddsBlank frame run w code lb lt wb wt out r lb' lt' wb wt out'
-  blank_closes r lb' lt' out' h e f space d₀ base v m main wrap k i =
-      rw (blank_lf (setup frame) m main code v (λ q. h (i.mode ∙ q)) e, ← i.main_is) (f d₀ base v.block k.keeps)
+  module _ (n : run.mode ≡ Normal → ⊥) where
+    -- LF closes the line.
+    pub blank_closes : (x : Result ℕ TooNarrow) (r : WrappedBlock) → code ≡ 0x0A → AddsNewline o run x r → AddsBlank o run a code x r
+    blank_closes x r e f = λ d₀ base v k sp.
+        walk_is_same d₀ base x r (blank_lf (setup o.line.frame) (mode run.mode) run.main code v (keeps_space_lem run.mode n) e) (f d₀ base v.block k.keeps)
 
-  -- A tab goes to the next stop.
-  pub blank_tabs : (r : Result Walk TooNarrow) (lb' lt' out' : List ℕ) → (run.mode ≡ 0 → ⊥) → (code ≡ 0x0A → ⊥) → code ≡ 0x09 → AddsTab frame w run.mode lb lt wb wt out r lb' lt' out'
-      → AddsBlank frame run w code lb lt wb wt out r lb' lt' wb wt out'
-  blank_tabs r lb' lt' out' h n e f space d₀ base v m main wrap k i =
-      rw (blank_tab (setup frame) m main code v (λ q. h (i.mode ∙ q)) n e) (f d₀ base v m k i.mode)
+    -- A tab goes to the next stop.
+    pub blank_tabs : (x : Result ℕ TooNarrow) (r : WrappedBlock) → (code ≡ 0x0A → ⊥) → code ≡ 0x09 → AddsTab o run.mode a x r → AddsBlank o run a code x r
+    blank_tabs x r h e f = λ d₀ base v k sp.
+        walk_is_same d₀ base x r (blank_tab (setup o.line.frame) (mode run.mode) run.main code v (keeps_space_lem run.mode n) h e) (f d₀ base v k)
 
-  -- Another blank is kept.
-  pub blank_stays : (part : List ℕ) (r : Walk) (wb' wt' : List ℕ) → (run.mode ≡ 0 → ⊥) → (code ≡ 0x0A → ⊥) → (code ≡ 0x09 → ⊥)
-      → AddsKept w run.mode part code wb wt r wb' wt' → AddsBlank frame run w code lb lt wb wt out (Ok r) lb lt wb' wt' out
-  blank_stays part r wb' wt' h n t f space d₀ base v m main wrap k i =
-      record {
-        walk = walk (keep_blank (width_of code) code (tag v.ann m) v.block) v.ann;
-        is = blank_other (setup frame) m main code v (λ q. h (i.mode ∙ q)) n t;
-        keeps = f d₀ base v m lb lt out k i.mode space;
-      }
+    -- Another blank is kept.
+    pub blank_stays : (r : WrappedBlock) → (code ≡ 0x0A → ⊥) → (code ≡ 0x09 → ⊥) → AddsKept o run.mode a code r → AddsBlank o run a code (Ok a) r
+    blank_stays r h t f = λ d₀ base v k sp.
+        record {
+          walk = walk (keep_blank (width_of code) code (tag v.ann (mode run.mode)) v.block) v.ann;
+          is = blank_other (setup o.line.frame) (mode run.mode) run.main code v (keeps_space_lem run.mode n) h t;
+          keeps = f d₀ base v k sp;
+        }
 
 -- ---- the character itself
 
-module _ (s : Setup) (m : Mode) (main wrap c : ℕ) (v : flat.Walk) where
+module _ (s : Setup) (m : Mode) (main wrap c : ℕ) (v : Walk) where
   -- U+200B is dropped
   char_none : c ≡ 0x200B → flat_add_char s m main wrap c v ≡ good v
   unfolding flat_add_char
@@ -173,30 +153,30 @@ module _ (s : Setup) (m : Mode) (main wrap c : ℕ) (v : flat.Walk) where
   unfolding flat_add_char
   char_blank h e = rw (ne_eqb c 0x200B h, e)
 
-module _ (frame : Frame) (run : Run) (w : Walk) (code : ℕ) (lb lt wb wt out : List ℕ) where
+module _ (o : WrappedBlock) (run : Run) (a code : ℕ) where
   -- U+200B changes nothing.
-  pub puts_none : code ≡ 0x200B → PutsChar frame run w code lb lt wb wt out (Ok w) lb lt wb wt out
-  puts_none e d₀ base v m main wrap k i = record { walk = v; is = char_none (setup frame) m main wrap code v e; keeps = k }
+  pub puts_none : code ≡ 0x200B → PutsChar o run a code (Ok a) o
+  puts_none e = λ d₀ base v k. record { walk = v; is = char_none (setup o.line.frame) (mode run.mode) run.main run.wrap code v e; keeps = k }
 
   -- A character of a word.
-  pub puts_word_char : (part : List ℕ) (r : Walk) (wb' wt' : List ℕ) → (code ≡ 0x200B → ⊥) → always_takes_space code ≡ true
-      → AddsWordChar frame run w part code (width_of code) wb wt r wb' wt' → PutsChar frame run w code lb lt wb wt out (Ok r) lb lt wb' wt' out
-  puts_word_char part r wb' wt' h e f d₀ base v m main wrap k i =
+  pub puts_word_char : (a' : ℕ) (r : WrappedBlock) → (code ≡ 0x200B → ⊥) → always_takes_space code ≡ true → AddsWordChar o run a code (width_of code) a' r
+      → PutsChar o run a code (Ok a') r
+  puts_word_char a' r h e f = λ d₀ base v k.
       record {
-        walk = add_word_char (setup frame) m wrap code (width_of code) v;
-        is = char_word_char (setup frame) m main wrap code v h e;
-        keeps = f d₀ base v m main wrap lb lt out k i refl e;
+        walk = add_word_char (setup o.line.frame) (mode run.mode) run.wrap code (width_of code) v;
+        is = char_word_char (setup o.line.frame) (mode run.mode) run.main run.wrap code v h e;
+        keeps = f d₀ base v k refl e;
       }
 
   -- White space.
-  pub puts_blank : (r : Result Walk TooNarrow) (lb' lt' wb' wt' out' : List ℕ) → (code ≡ 0x200B → ⊥) → always_takes_space code ≡ false
-      → AddsBlank frame run w code lb lt wb wt out r lb' lt' wb' wt' out' → PutsChar frame run w code lb lt wb wt out r lb' lt' wb' wt' out'
-  puts_blank r lb' lt' wb' wt' out' h e f d₀ base v m main wrap k i =
-      rw (char_blank (setup frame) m main wrap code v h e) (f e d₀ base v m main wrap k i)
+  pub puts_blank : (x : Result ℕ TooNarrow) (r : WrappedBlock) → (code ≡ 0x200B → ⊥) → always_takes_space code ≡ false → AddsBlank o run a code x r
+      → PutsChar o run a code x r
+  puts_blank x r h e f = λ d₀ base v k.
+      walk_is_same d₀ base x r (char_blank (setup o.line.frame) (mode run.mode) run.main run.wrap code v h e) (f d₀ base v k e)
 
 -- ---- one character
 
-module _ (s : Setup) (m : Mode) (main wrap c : ℕ) (v : flat.Walk) where
+module _ (s : Setup) (m : Mode) (main wrap c : ℕ) (v : Walk) where
   -- after the break point
   pub step_on : (b : Block) → break_word s m c v.block ≡ good b → step s m main wrap c v ≡ flat_add_char s m main wrap c (walk b v.ann)
   unfolding step
@@ -207,21 +187,20 @@ module _ (s : Setup) (m : Mode) (main wrap c : ℕ) (v : flat.Walk) where
   unfolding step
   step_narrow e = rw e
 
-module _ (frame : Frame) (run : Run) (w : Walk) (code : ℕ) (lb lt wb wt out lb₁ lt₁ out₁ : List ℕ) where
+module _ (o : WrappedBlock) (run : Run) (a code : ℕ) (d : WrappedBlock) where
   -- The character goes on from the word closed or not.
-  pub adds_char : (st : State) (r : Result Walk TooNarrow) (lb' lt' wb' wt' out' : List ℕ) → BreaksWord frame run w.st code lb lt wb wt out (Ok st) lb₁ lt₁ out₁
-      → PutsChar frame run (record { st = st; ann = w.ann }) code lb₁ lt₁ wb wt out₁ r lb' lt' wb' wt' out'
-      → AddsChar frame run w code lb lt wb wt out r lb' lt' wb' wt' out'
-  adds_char st r lb' lt' wb' wt' out' breaks p d₀ base v m main wrap k i =
-      let x : NextBlock (break_word (setup frame) m code v.block) d₀ base st lb₁ lt₁ wb wt out₁ = breaks d₀ base v.block m main wrap k.keeps i in
-      rw (step_on (setup frame) m main wrap code v x.block x.is)
-      (p d₀ base (walk x.block v.ann) m main wrap (record { keeps = x.keeps; ann = k.ann }) i)
+  pub adds_char : (x : Result ℕ TooNarrow) (r : WrappedBlock) → BlockStays o d → BreaksWord o run.mode code (Ok tt) d → PutsChar d run a code x r
+      → AddsChar o run a code x r
+  adds_char x r st breaks p = λ d₀ base v k.
+      let n : NextBlock (break_word (setup o.line.frame) (mode run.mode) code v.block) d₀ base d = breaks d₀ base v.block k.keeps in
+      walk_is_same d₀ base x r (step_on (setup o.line.frame) (mode run.mode) run.main run.wrap code v n.block n.is)
+      (subst (λ (f : Frame). WalkIs (flat_add_char (setup f) (mode run.mode) run.main run.wrap code (walk n.block v.ann)) d₀ base x r) st.line.frame
+      (p d₀ base (walk n.block v.ann) (record { keeps = n.keeps; ann = k.ann })))
 
   -- TooNarrow.
-  pub adds_narrow : (n : TooNarrow) (r : Result Walk TooNarrow) → BreaksWord frame run w.st code lb lt wb wt out (Err n) lb₁ lt₁ out₁ → IsErr r
-      → AddsChar frame run w code lb lt wb wt out r lb₁ lt₁ wb wt out₁
-  adds_narrow n r breaks h d₀ base v m main wrap k i =
-      MatchResult-from_err r _ _ h (λ _. step_narrow (setup frame) m main wrap code v (breaks d₀ base v.block m main wrap k.keeps i))
+  pub adds_narrow : (n : TooNarrow) (x : Result ℕ TooNarrow) → BreaksWord o run.mode code (Err n) d → IsErr x → AddsChar o run a code x d
+  adds_narrow n x breaks h = λ d₀ base v k.
+      MatchResult-from_err x _ _ h (λ _. step_narrow (setup o.line.frame) (mode run.mode) run.main run.wrap code v (breaks d₀ base v.block k.keeps))
 
 -- ---- the first character of a text
 
@@ -251,21 +230,21 @@ first main wrap b = if b.pre_wrapped then wrap else main
 
 module _ (s : Setup) (m : Mode) (main wrap : ℕ) where
   -- a step that is made
-  pub steps_on : (c : ℕ) (cs zs : List ℕ) (v v' : flat.Walk) → cs ≡ c ∷ zs → step s m main wrap c v ≡ good v' → steps s m main wrap cs v ≡ steps s m main wrap zs v'
+  pub steps_on : (c : ℕ) (cs zs : List ℕ) (v v' : Walk) → cs ≡ c ∷ zs → step s m main wrap c v ≡ good v' → steps s m main wrap cs v ≡ steps s m main wrap zs v'
   unfolding steps
   steps_on c cs zs v v' e q = rw (e, q)
 
   -- a step without room
-  steps_narrow : (c : ℕ) (cs zs : List ℕ) (v : flat.Walk) → cs ≡ c ∷ zs → step s m main wrap c v ≡ too_narrow → steps s m main wrap cs v ≡ too_narrow
+  steps_narrow : (c : ℕ) (cs zs : List ℕ) (v : Walk) → cs ≡ c ∷ zs → step s m main wrap c v ≡ too_narrow → steps s m main wrap cs v ≡ too_narrow
   unfolding steps
   steps_narrow c cs zs v e q = rw (e, q)
 
   -- no step is left
-  steps_end : (cs : List ℕ) (v : flat.Walk) → cs ≡ [] → steps s m main wrap cs v ≡ good v
+  steps_end : (cs : List ℕ) (v : Walk) → cs ≡ [] → steps s m main wrap cs v ≡ good v
   unfolding steps
   steps_end cs v e = rw e
 
-  text_good : (cs : List ℕ) (b : Block) (v : flat.Walk) → steps s m main wrap cs (walk b (first main wrap b)) ≡ good v → flat_add_text s m main wrap cs b ≡ good v.block
+  text_good : (cs : List ℕ) (b : Block) (v : Walk) → steps s m main wrap cs (walk b (first main wrap b)) ≡ good v → flat_add_text s m main wrap cs b ≡ good v.block
   unfolding flat_add_text
   text_good cs b v e = rw e
 
@@ -276,58 +255,46 @@ module _ (s : Setup) (m : Mode) (main wrap : ℕ) where
 -- ---- the walk
 
 -- the characters from a place on, from the walk as it now stands, give what the whole text gives
-pub record Gone (s : Setup) (m : Mode) (main wrap : ℕ) (cs : List ℕ) (b : Block) (d₀ : List ℕ) (base : ℕ) (text : List ℕ) (cur : Walk) (at : ℕ) (lb lt wb wt out : List ℕ) : Type 0 where
-  pub v : flat.Walk
+pub record Gone (s : Setup) (m : Mode) (main wrap : ℕ) (cs : List ℕ) (b : Block) (d₀ : List ℕ) (base : ℕ) (text : List ℕ) (l : WrappedBlock) (a at : ℕ) : Type 0 where
+  pub v : Walk
   pub zs : List ℕ
-  pub keeps : WalkKeeps d₀ base v cur lb lt wb wt out
+  pub keeps : WalkKeeps d₀ base v l a
   pub left : chars (drop at text) ≡ some zs
   pub same : steps s m main wrap cs (walk b (first main wrap b)) ≡ steps s m main wrap zs v
 
 -- The invariant of the loop: the numbers, and that what is left gives what the whole gives.
-pub record Walking (frame : Frame) (run : Run) (text lb₀ lt₀ wb₀ wt₀ out₀ : List ℕ) (start : Walk) (lb lt wb wt out : List ℕ) (cur : Walk) (at : ℕ) : Type 0 where
+pub record Walking (o : WrappedBlock) (run : Run) (text : List ℕ) (l : WrappedBlock) (a at : ℕ) : Type 0 where
+  pub stays : BlockStays o l
+  pub buffers : BuffersLongEnough l
   pub inside : at ≤ length text
-  pub small : WalkedSmall frame cur (start.st.used + at)
-  pub lb_same : length lb ≡ length lb₀
-  pub lt_same : length lt ≡ length lt₀
-  pub wb_same : length wb ≡ length wb₀
-  pub wt_same : length wt ≡ length wt₀
-  pub out_same : length out ≡ length out₀
-  pub gone : (d₀ : List ℕ) (base : ℕ) (b : Block) (m : Mode) (main wrap : ℕ) (cs : List ℕ) → Keeps d₀ base b start.st lb₀ lt₀ wb₀ wt₀ out₀ → RunIs run m main wrap
-      → chars text ≡ some cs → Gone (setup frame) m main wrap cs b d₀ base text cur at lb lt wb wt out
+  pub small : WalkedSmall l a (o.used + at)
+  pub gone : (d₀ : List ℕ) (base : ℕ) (b : Block) (cs : List ℕ) → Keeps d₀ base b o → chars text ≡ some cs
+      → Gone (setup o.line.frame) (mode run.mode) run.main run.wrap cs b d₀ base text l a at
 
 -- the first annotation is in range
 first_in : (run : Run) (p : Bool) → RunSmall run → (if p then run.wrap else run.main) < 256
 first_in run p h = by_if (λ (n : ℕ). n < 256) p (λ _. h.wrap) (λ _. h.main)
 
--- it is the one that the flat text begins with
-first_same_lem : (run : Run) (m : Mode) (main wrap : ℕ) (b : Block) (p : Bool) → p ≡ b.pre_wrapped → RunIs run m main wrap
-    → (if p then run.wrap else run.main) ≡ first main wrap b
-first_same_lem run m main wrap b p e i = rw (e, i.wrap_is, i.main_is)
-
 -- The walk begins.
-pub walking_starts : (frame : Frame) (run : Run) (text lb lt wb wt out : List ℕ) (start : Walk) → CountsWithinUnits frame start.st → RunSmall run
-    → start.ann ≡ (if start.st.wrapped then run.wrap else run.main) → Walking frame run text lb lt wb wt out start lb lt wb wt out start 0
-walking_starts frame run text lb lt wb wt out start h r e =
+pub walking_starts : (o : WrappedBlock) (run : Run) (text : List ℕ) (a : ℕ) → CountsWithinUnits o → BuffersLongEnough o → RunSmall run
+    → a ≡ (if o.wrapped then run.wrap else run.main) → Walking o run text o a 0
+walking_starts o run text a h u r e =
     record {
+      stays = record { line = record { frame = refl; room = refl; store = refl }; word = refl };
+      buffers = u;
       inside = omega arith;
-      small = record { small = h; ann = rw e (first_in run start.st.wrapped r); used = omega arith };
-      lb_same = refl;
-      lt_same = refl;
-      wb_same = refl;
-      wt_same = refl;
-      out_same = refl;
-      gone = λ d₀ base b m main wrap cs k i t.
+      small = record { small = h; ann = rw e (first_in run o.wrapped r); used = omega arith };
+      gone = λ d₀ base b cs k t.
           record {
-            v = walk b (first main wrap b);
+            v = walk b (first run.main run.wrap b);
             zs = cs;
-            keeps = record { keeps = k; ann = e ∙ first_same_lem run m main wrap b start.st.wrapped k.wrapped i };
+            keeps = record { keeps = k; ann = e ∙ ap (λ (p : Bool). if p then run.wrap else run.main) k.wrapped };
             left = t;
             same = refl;
           };
     }
 
-module _ {frame : Frame} {run : Run} {text lb₀ lt₀ wb₀ wt₀ out₀ : List ℕ} {start : Walk} {lb lt wb wt out : List ℕ} {cur : Walk} {at : ℕ}
-    (inv : Walking frame run text lb₀ lt₀ wb₀ wt₀ out₀ start lb lt wb wt out cur at) where
+module _ {o : WrappedBlock} {run : Run} {text : List ℕ} {l : WrappedBlock} {a at : ℕ} (inv : Walking o run text l a at) where
   -- what is left to walk
   left_is : (zs : List ℕ) → chars (drop at text) ≡ some zs → chars (take (length text - at) (drop at text)) ≡ some zs
   left_is zs e = rw (rest text at) e
@@ -337,33 +304,33 @@ module _ {frame : Frame} {run : Run} {text lb₀ lt₀ wb₀ wt₀ out₀ : List
   left_on n zs e = rw (rest text at, drop-drop) at e
 
   -- Plain characters that are taken keep the invariant.
-  pub walking_past : (r : Past) (wb' wt' : List ℕ) → AddsPlain frame run cur (take (length text - at) (drop at text)) wb wt r wb' wt'
-      → r.len ≤ length (take (length text - at) (drop at text)) → WalkedSmall frame r.w (cur.st.used + r.len)
-      → length wb' ≡ length wb → length wt' ≡ length wt → Walking frame run text lb₀ lt₀ wb₀ wt₀ out₀ start lb lt wb' wt' out r.w (at + r.len)
-  walking_past r wb' wt' adds h x y z =
+  pub walking_past : (x : Past) (r : WrappedBlock) → AddsPlain l run a (take (length text - at) (drop at text)) x r → BlockStays l r
+      → x.len ≤ length (take (length text - at) (drop at text)) → WalkedSmall r x.ann (l.used + x.len) → Walking o run text r x.ann (at + x.len)
+  walking_past x r adds st h y =
       record {
+        stays = stays_on inv.stays st;
+        buffers = buffers_stay st inv.buffers;
         inside = omega (arith, inv.inside, part_len text at);
-        small = walked_more (omega (arith, inv.small.used)) x;
-        lb_same = inv.lb_same;
-        lt_same = inv.lt_same;
-        wb_same = y ∙ inv.wb_same;
-        wt_same = z ∙ inv.wt_same;
-        out_same = inv.out_same;
-        gone = λ d₀ base b m main wrap cs k i t.
-            let g = inv.gone d₀ base b m main wrap cs k i t in
-            let p = adds d₀ base g.v m main wrap g.zs lb lt out g.keeps i (left_is g.zs g.left) in
-            record { v = p.next; zs = p.rest; keeps = p.keeps; left = left_on r.len p.rest p.left; same = g.same ∙ p.same };
+        small = record { small = y.small; ann = y.ann; used = omega (arith, inv.small.used, y.used) };
+        gone = λ d₀ base b cs k t.
+            let g = inv.gone d₀ base b cs k t in
+            let part = take (length text - at) (drop at text) in
+            let p : PastIs (setup o.line.frame) (mode run.mode) run.main run.wrap part g.zs g.v d₀ base x r
+            = subst (λ (f : Frame). PastIs (setup f) (mode run.mode) run.main run.wrap part g.zs g.v d₀ base x r) inv.stays.line.frame
+            (adds d₀ base g.v g.zs g.keeps (left_is g.zs g.left)) in
+            record { v = p.next; zs = p.rest; keeps = p.keeps; left = left_on x.len p.rest p.left; same = g.same ∙ p.same };
       }
 
   -- Where no character is left the walk is made.
-  pub walking_ends : decode_of (take (length text - at) (drop at text)) ≡ rust.None
-      → AddsText frame run start.st text lb₀ lt₀ wb₀ wt₀ out₀ (Ok cur.st) lb lt wb wt out
-  walking_ends e d₀ base b m main wrap cs k i t =
-      let g = inv.gone d₀ base b m main wrap cs k i t in
+  pub walking_ends : decode_of (take (length text - at) (drop at text)) ≡ rust.None → AddsText o run text (Ok tt) l
+  walking_ends e = λ d₀ base b cs k t.
+      let g = inv.gone d₀ base b cs k t in
+      let s = setup o.line.frame in
+      let m = mode run.mode in
       let x = no_chars (take (length text - at) (drop at text)) g.zs e (left_is g.zs g.left) in
       record {
         block = g.v.block;
-        is = text_good (setup frame) m main wrap cs b g.v (g.same ∙ steps_end (setup frame) m main wrap g.zs g.v x);
+        is = text_good s m run.main run.wrap cs b g.v (g.same ∙ steps_end s m run.main run.wrap g.zs g.v x);
         keeps = g.keeps.keeps;
       }
 
@@ -385,49 +352,51 @@ module _ {frame : Frame} {run : Run} {text lb₀ lt₀ wb₀ wt₀ out₀ : List
     char_is = rw (part_bytes text at k) (first_is (drop at text) c k (rw (rest text at) at e))
 
     -- There are units for them.
-    pub char_ready : start.st.used + length text ≤ 4096 → Ready frame cur (length (take (at + k - at) (drop at text)))
+    pub char_ready : o.used + length text ≤ 4096 → Ready l a (length (take (at + k - at) (drop at text)))
     char_ready u =
         record {
           small = inv.small.small;
+          buffers = inv.buffers;
           ann = inv.small.ann;
           some = omega (arith, char_length, char_some);
           units = omega (arith, char_length, char_inside, inv.small.used, u);
         }
 
-    module _ (lb' lt' wb' wt' out' : List ℕ) where
+    module _ (r : WrappedBlock) where
       -- A character that is walked keeps the invariant.
-      pub walking_on : (w : Walk) → AddsChar frame run cur c lb lt wb wt out (Ok w) lb' lt' wb' wt' out' → WalkedSmall frame w (cur.st.used + length (take (at + k - at) (drop at text)))
-          → length lb' ≡ length lb → length lt' ≡ length lt → length wb' ≡ length wb → length wt' ≡ length wt → length out' ≡ length out
-          → Walking frame run text lb₀ lt₀ wb₀ wt₀ out₀ start lb' lt' wb' wt' out' w (at + k)
-      walking_on w adds y p₁ p₂ p₃ p₄ p₅ =
+      pub walking_on : (a' : ℕ) → AddsChar l run a c (Ok a') r → BlockStays l r → WalkedSmall r a' (l.used + length (take (at + k - at) (drop at text)))
+          → Walking o run text r a' (at + k)
+      walking_on a' adds st y =
           record {
+            stays = stays_on inv.stays st;
+            buffers = buffers_stay st inv.buffers;
             inside = char_inside;
-            small = walked_more (omega (arith, char_length, inv.small.used)) y;
-            lb_same = p₁ ∙ inv.lb_same;
-            lt_same = p₂ ∙ inv.lt_same;
-            wb_same = p₃ ∙ inv.wb_same;
-            wt_same = p₄ ∙ inv.wt_same;
-            out_same = p₅ ∙ inv.out_same;
-            gone = λ d₀ base b m main wrap cs o i t.
-                let g = inv.gone d₀ base b m main wrap cs o i t in
+            small = record { small = y.small; ann = y.ann; used = omega (arith, char_length, inv.small.used, y.used) };
+            gone = λ d₀ base b cs q t.
+                let g = inv.gone d₀ base b cs q t in
+                let s = setup o.line.frame in
+                let m = mode run.mode in
                 let (zs, ez, ex) = some_cons c (chars (drop k (take (length text - at) (drop at text)))) g.zs
                 (sym (chars_step (take (length text - at) (drop at text)) c k e) ∙ left_is g.zs g.left) in
-                let n : NextWalk (step (setup frame) m main wrap c g.v) d₀ base w lb' lt' wb' wt' out' = adds d₀ base g.v m main wrap g.keeps i in
+                let n : NextWalk (step s m run.main run.wrap c g.v) d₀ base r a'
+                = subst (λ (f : Frame). NextWalk (step (setup f) m run.main run.wrap c g.v) d₀ base r a') inv.stays.line.frame (adds d₀ base g.v g.keeps) in
                 record {
                   v = n.walk;
                   zs = zs;
                   keeps = n.keeps;
                   left = left_on k zs ez;
-                  same = g.same ∙ steps_on (setup frame) m main wrap c g.zs zs g.v n.walk ex n.is;
+                  same = g.same ∙ steps_on s m run.main run.wrap c g.zs zs g.v n.walk ex n.is;
                 };
           }
 
       -- Without room for it the text has none.
-      pub walking_narrow : (n : TooNarrow) (r : Result State TooNarrow) → AddsChar frame run cur c lb lt wb wt out (Err n) lb' lt' wb' wt' out' → IsErr r
-          → AddsText frame run start.st text lb₀ lt₀ wb₀ wt₀ out₀ r lb' lt' wb' wt' out'
-      walking_narrow n r adds h d₀ base b m main wrap cs o i t =
-          let g = inv.gone d₀ base b m main wrap cs o i t in
+      pub walking_narrow : (n : TooNarrow) (x : Result Unit TooNarrow) → AddsChar l run a c (Err n) r → IsErr x → AddsText o run text x r
+      walking_narrow n x adds h = λ d₀ base b cs q t.
+          let g = inv.gone d₀ base b cs q t in
+          let s = setup o.line.frame in
+          let m = mode run.mode in
           let (zs, ez, ex) = some_cons c (chars (drop k (take (length text - at) (drop at text)))) g.zs
           (sym (chars_step (take (length text - at) (drop at text)) c k e) ∙ left_is g.zs g.left) in
-          let x : step (setup frame) m main wrap c g.v ≡ too_narrow = adds d₀ base g.v m main wrap g.keeps i in
-          MatchResult-from_err r _ _ h (λ _. text_narrow (setup frame) m main wrap cs b (g.same ∙ steps_narrow (setup frame) m main wrap c g.zs zs g.v ex x))
+          let y : step s m run.main run.wrap c g.v ≡ too_narrow
+          = subst (λ (f : Frame). step (setup f) m run.main run.wrap c g.v ≡ too_narrow) inv.stays.line.frame (adds d₀ base g.v g.keeps) in
+          MatchResult-from_err x _ _ h (λ _. text_narrow s m run.main run.wrap cs b (g.same ∙ steps_narrow s m run.main run.wrap c g.zs zs g.v ex y))

@@ -4,49 +4,48 @@
 use Rattle.std.specs.Prelude.{◌≡◌, true, ◌⊎◌, List, ℕ, ◌+◌, ◌<◌, ◌≤◌, drop}
 use Rattle.std.proofs.Math.Option.{some}
 use Rattle.characters.specs.Utf8.{chars}
-use Rattle.fields.specs.Job.{Mode}
+use Rattle.fields.specs.Job.{Mode, pre}
 use Rattle.fields.specs.declared.job.Setup.{Setup}
-use Rattle.block.specs.Flat.{steps}
-use Rattle.block.specs.Flat as flat
+use Rattle.block.specs.Flat.{Walk, steps}
 use Rattle.hard_wrap.specs.Hold.{setup}
-use Rattle.hard_wrap.specs.declared.line.Frame.{Frame}
-use Rattle.add_text.specs.Walks.{RunIs, WalkKeeps}
+use Rattle.flush_word.specs.Modes.{mode}
+use Rattle.flush_word.specs.declared.state.WrappedBlock.{WrappedBlock}
+use Rattle.add_text.specs.Walks.{WalkKeeps}
 use Rattle.add_text.specs.declared.text.Run.{Run}
-use Rattle.add_text.specs.declared.walk.Walk.{Walk}
 use Rattle.add_text.specs.declared.runs.Take.{Take}
 use Rattle.add_text.specs.declared.runs.Past.{Past}
 
 -- the columns of line, blanks and word
-abbrev pub reached : Walk → ℕ
-reached w = w.st.line.cols + w.st.blanks.count + w.st.word.cols
+abbrev pub reached : WrappedBlock → ℕ
+reached o = o.line.cols + o.blanks.count + o.word.cols
 
 -- with the annotation in use: outside Pre, or as far as the width goes
-pub record Keeping (frame : Frame) (run : Run) (w : Walk) (r : Take) : Type 0 where
-  pub within : (run.mode ≡ 1 → ⊥) ⊎ (reached w + r.most ≤ frame.width)
-  pub ann : r.ann ≡ w.ann
-  pub wrapped : r.wrapped ≡ w.st.wrapped
+pub record Keeping (o : WrappedBlock) (run : Run) (a : ℕ) (r : Take) : Type 0 where
+  pub within : (mode run.mode ≡ pre → ⊥) ⊎ (reached o + r.most ≤ o.line.frame.width)
+  pub ann : r.ann ≡ a
+  pub wrapped : r.wrapped ≡ o.wrapped
 
 -- with the continued annotation: in Pre, past the width
-pub record Wrapping (frame : Frame) (run : Run) (w : Walk) (r : Take) : Type 0 where
-  pub mode : run.mode ≡ 1
-  pub past : frame.width ≤ reached w
+pub record Wrapping (o : WrappedBlock) (run : Run) (r : Take) : Type 0 where
+  pub mode : mode run.mode ≡ pre
+  pub past : o.line.frame.width ≤ reached o
   pub ann : r.ann ≡ run.wrap
   pub wrapped : r.wrapped ≡ true
 
 -- one of the two
-abbrev pub Takes : Frame → Run → Walk → Take → Type 0
-Takes frame run w r = (r.ann < 256) × (Keeping frame run w r ⊎ Wrapping frame run w r)
+abbrev pub Takes : WrappedBlock → Run → ℕ → Take → Type 0
+Takes o run ann r = (r.ann < 256) × (Keeping o run ann r ⊎ Wrapping o run r)
 
 -- from the walk past the plain characters, what is left of the text gives what the whole text gives
-pub record PastIs (s : Setup) (m : Mode) (main wrap : ℕ) (text cs : List ℕ) (v : flat.Walk) (d₀ : List ℕ) (base : ℕ) (r : Past) (lb lt wb wt out : List ℕ) : Type 0 where
-  pub next : flat.Walk
+pub record PastIs (s : Setup) (m : Mode) (main wrap : ℕ) (text cs : List ℕ) (v : Walk) (d₀ : List ℕ) (base : ℕ) (x : Past) (r : WrappedBlock) : Type 0 where
+  pub next : Walk
   pub rest : List ℕ
-  pub keeps : WalkKeeps d₀ base next r.w lb lt wb wt out
-  pub left : chars (drop r.len text) ≡ some rest
+  pub keeps : WalkKeeps d₀ base next r x.ann
+  pub left : chars (drop x.len text) ≡ some rest
   pub same : steps s m main wrap cs v ≡ steps s m main wrap rest next
 
 -- the plain characters that a text starts with
-abbrev pub AddsPlain : Frame → Run → Walk → List ℕ → List ℕ → List ℕ → Past → List ℕ → List ℕ → Type 0
-AddsPlain frame run w text wb wt r wb' wt' =
-    (d₀ : List ℕ) (base : ℕ) (v : flat.Walk) (m : Mode) (main wrap : ℕ) (cs lb lt out : List ℕ) → WalkKeeps d₀ base v w lb lt wb wt out
-    → RunIs run m main wrap → chars text ≡ some cs → PastIs (setup frame) m main wrap text cs v d₀ base r lb lt wb' wt' out
+abbrev pub AddsPlain : WrappedBlock → Run → ℕ → List ℕ → Past → WrappedBlock → Type 0
+AddsPlain o run ann text x r =
+    (d₀ : List ℕ) (base : ℕ) (v : Walk) (cs : List ℕ) → WalkKeeps d₀ base v o ann → chars text ≡ some cs
+    → PastIs (setup o.line.frame) (mode run.mode) run.main run.wrap text cs v d₀ base x r

@@ -1,287 +1,177 @@
-// One character of `add_text`'s walk.
-ghost use Rattle.std.specs.Prelude.{◌≡◌, true, ◌+◌, ◌*◌, ◌<◌, ◌≤◌, length};
+// One character of `add_text`'s walk: what it does to the block, and the annotation in use after it.
+ghost use Rattle.std.specs.Prelude.{◌≡◌, true, ◌+◌, ◌<◌, ◌≤◌, length};
 ghost use Rattle.std.proofs.Math.Option.{some};
 ghost use Rattle.characters.specs.Columns.{width_of};
-ghost use Rattle.flush_word.specs.Keep.{CountsWithinUnits, BuffersLongEnough, StaysWithinUnits};
+ghost use Rattle.flush_word.specs.Keep.{CountsWithinUnits, BuffersLongEnough, BlockStays, StaysWithinUnits};
 ghost use Rattle.add_chars.specs.Chars.{AmongUnits};
 ghost use Rattle.add_text.specs.Walks.{RunSmall, Ready, WalkedSmall, WalkSmall, CharIs};
-ghost use Rattle.add_text.specs.Walks.{AddsNewline, AddsTab, AddsKept, AddsCollapsed, AddsWordChar, BreaksWord, AddsBlank, PutsChar, AddsChar};
+ghost use Rattle.add_text.specs.Walks.{AddsNewline, AddsTab, AddsKept, AddsWordChar, BreaksWord, AddsBlank, PutsChar, AddsChar};
 
 use crate::text::Run;
 use add_chars::chars::{collapse, keep_blank, push_word};
 use add_chars::stops::{newline, tab};
 use characters::columns::{Columns, columns_of};
 use characters::whitespace::{always_takes_space, is_wordbreak_point};
-use flush_word::state::State;
-use flush_word::word::flush_word;
+use flush_word::state::WrappedBlock;
+use flush_word::white_space::WhiteSpace;
 use hard_wrap::error::TooNarrow;
-use hard_wrap::line::Frame;
-
-// The state, and the annotation in use (the local `tag` of `add_text`).
-#[derive(Clone, Copy, Debug, PartialEq, Eq)]
-pub struct Walk {
-    pub st: State,
-    pub ann: u32,
-}
-
-// Annotation and mode in one number.
-pub fn tag_of(ann: u32, mode: u32) -> u32
-    requires { (ann < 256) × (mode < 3) }
-    ensures { result ≡ ann + 65536 * mode }
-{
-    ann + 65536 * mode
-}
 
 // LF: the word is flushed, the line closed, and the first annotation is back.
-fn add_newline(
-    frame: Frame,
-    run: Run,
-    st: State,
-    lb: &mut [u8],
-    lt: &mut [u32],
-    wb: &[u8],
-    wt: &[u32],
-    out: &mut [u8],
-) -> Result<Walk, TooNarrow>
-    requires counts_within_units { CountsWithinUnits frame st × BuffersLongEnough frame (length lb.old) (length lt.old) (length wb.now) (length wt.now) }
-    requires run_small { RunSmall run × (st.used < 4096) }
-    ensures walk_small { WalkSmall frame (st.used + 1) result }
-    ensures adds_newline { AddsNewline frame run st
-        lb.old lt.old wb.now wt.now out.old result
-        lb.new lt.new out.new }
+fn add_newline(block: &mut WrappedBlock<'_>, run: Run) -> Result<u32, TooNarrow>
+    requires counts_within_units { CountsWithinUnits block.old × BuffersLongEnough block.old }
+    requires run_small { RunSmall run × (block.old.used < 4096) }
+    ensures stays { BlockStays block.old block.new }
+    ensures walk_small { WalkSmall (block.old.used + 1) result block.new }
+    ensures adds_newline { AddsNewline block.old run result block.new }
 {
-    let done = flush_word(frame, st, lb, lt, wb, wt, out)?;
-    let next = newline(frame, done, lb, lt, out);
-    Ok(Walk {
-        st: next,
-        ann: run.main,
-    })
+    block.flush_word()?;
+    newline(block);
+    Ok(run.main)
 }
 
 // A tab: the word is flushed, and spaces go to the next stop.
-fn add_tab(
-    frame: Frame,
-    w: Walk,
-    mode: u32,
-    lb: &mut [u8],
-    lt: &mut [u32],
-    wb: &[u8],
-    wt: &[u32],
-    out: &mut [u8],
-) -> Result<Walk, TooNarrow>
-    requires ready { Ready frame w 1 × BuffersLongEnough frame (length lb.old) (length lt.old) (length wb.now) (length wt.now) }
-    requires mode_bound { mode < 3 }
-    ensures walk_small { WalkSmall frame (w.st.used + 1) result }
-    ensures adds_tab { AddsTab frame w mode lb.old lt.old wb.now wt.now out.old result lb.new lt.new out.new }
+fn add_tab(block: &mut WrappedBlock<'_>, mode: WhiteSpace, ann: u32) -> Result<u32, TooNarrow>
+    requires { Ready block.old ann 1 }
+    ensures stays { BlockStays block.old block.new }
+    ensures walk_small { WalkSmall (block.old.used + 1) result block.new }
+    ensures adds_tab { AddsTab block.old mode ann result block.new }
 {
-    let tag = tag_of(w.ann, mode);
-    let done = flush_word(frame, w.st, lb, lt, wb, wt, out)?;
-    let st = tab(frame, done, lb, lt, tag, out);
-    Ok(Walk { st, ..w })
+    block.flush_word()?;
+    tab(block, mode.tag(ann));
+    Ok(ann)
 }
 
 // A blank that is neither LF nor tab where white space is kept; a control is dropped.
-fn add_kept(
-    frame: Frame,
-    w: Walk,
-    mode: u32,
-    wb: &mut [u8],
-    wt: &mut [u32],
-    part: &[u8],
-    code: u32,
-) -> Walk
-    requires ready { Ready frame w (length part.now) × BuffersLongEnough frame 4608 4608 (length wb.old) (length wt.old) }
-    requires char_is { CharIs part.now code × (mode < 3) }
-    ensures walked_small { WalkedSmall frame result (w.st.used + length part.now) }
-    ensures adds_kept { AddsKept w mode part.now code wb.old wt.old result wb.new wt.new }
+fn add_kept(block: &mut WrappedBlock<'_>, mode: WhiteSpace, ann: u32, part: &[u8], code: u32)
+    requires ready { Ready block.old ann (length part.now) }
+    requires char_is { CharIs part.now code }
+    ensures stays { BlockStays block.old block.new }
+    ensures walked_small { WalkedSmall block.new ann (block.old.used + length part.now) }
+    ensures adds_kept { AddsKept block.old mode ann code block.new }
 {
-    let tag = tag_of(w.ann, mode);
-    let k = columns_of(code);
-    match k {
-        Columns::Cols(cols) => {
-            let st = keep_blank(frame, w.st, wb, wt, part, usize::from(cols), tag);
-            Walk { st, ..w }
-        }
-        Columns::Control => w,
-        Columns::OffList => w,
+    match columns_of(code) {
+        Columns::Cols(cols) => keep_blank(block, part, usize::from(cols), mode.tag(ann)),
+        Columns::Control | Columns::OffList => {}
     }
-}
-
-// A blank in Normal.
-fn add_collapsed(frame: Frame, w: Walk) -> Walk
-    requires { Ready frame w 1 }
-    ensures walked_small { WalkedSmall frame result (w.st.used + 1) }
-    ensures adds_collapsed { AddsCollapsed w result }
-{
-    let st = collapse(frame, w.st, w.ann);
-    Walk { st, ..w }
 }
 
 // A character of a word, of so many columns; in Pre, past the width, it takes the continued annotation.
 fn add_cols(
-    frame: Frame,
+    block: &mut WrappedBlock<'_>,
     run: Run,
-    w: Walk,
-    wb: &mut [u8],
-    wt: &mut [u32],
+    ann: u32,
     part: &[u8],
     code: u32,
     cols: usize,
-) -> Walk
-    requires ready { Ready frame w (length part.now) × BuffersLongEnough frame 4608 4608 (length wb.old) (length wt.old) }
-    requires char_is { CharIs part.now code × RunSmall run × AmongUnits w.st (length part.now) cols }
-    ensures walked_small { WalkedSmall frame result (w.st.used + length part.now) }
-    ensures adds_word_char { AddsWordChar frame run w part.now code (some cols) wb.old wt.old result wb.new wt.new }
+) -> u32
+    requires ready { Ready block.old ann (length part.now) }
+    requires char_is { CharIs part.now code × RunSmall run × AmongUnits block.old (length part.now) cols }
+    ensures stays { BlockStays block.old block.new }
+    ensures walked_small { WalkedSmall block.new result (block.old.used + length part.now) }
+    ensures adds_word_char { AddsWordChar block.old run ann code (some cols) result block.new }
 {
-    let st = w.st;
-    if run.mode == 1 {
-        if frame.width < st.line.cols + st.blanks.count + (st.word.cols + cols) {
-            let next = push_word(frame, st, wb, wt, part, cols, tag_of(run.wrap, 1));
-            return Walk {
-                st: State {
-                    wrapped: true,
-                    ..next
-                },
-                ann: run.wrap,
-            };
+    if run.mode == WhiteSpace::Pre {
+        let reached = block.line.cols + block.blanks.count + (block.word.cols + cols);
+        if block.line.frame.width < reached {
+            push_word(block, part, cols, run.mode.tag(run.wrap));
+            block.wrapped = true;
+            return run.wrap;
         }
     }
-    let next = push_word(frame, st, wb, wt, part, cols, tag_of(w.ann, run.mode));
-    Walk { st: next, ..w }
+    push_word(block, part, cols, run.mode.tag(ann));
+    ann
 }
 
 // A character of a word; a control is dropped.
-fn add_word_char(
-    frame: Frame,
-    run: Run,
-    w: Walk,
-    wb: &mut [u8],
-    wt: &mut [u32],
-    part: &[u8],
-    code: u32,
-) -> Walk
-    requires ready { Ready frame w (length part.now) × BuffersLongEnough frame 4608 4608 (length wb.old) (length wt.old) }
+fn add_word_char(block: &mut WrappedBlock<'_>, run: Run, ann: u32, part: &[u8], code: u32) -> u32
+    requires ready { Ready block.old ann (length part.now) }
     requires char_is { CharIs part.now code × RunSmall run }
-    ensures walked_small { WalkedSmall frame result (w.st.used + length part.now) }
-    ensures adds_word_char { AddsWordChar frame run w part.now code (width_of code) wb.old wt.old result wb.new wt.new }
+    ensures stays { BlockStays block.old block.new }
+    ensures walked_small { WalkedSmall block.new result (block.old.used + length part.now) }
+    ensures adds_word_char { AddsWordChar block.old run ann code (width_of code) result block.new }
 {
-    let k = columns_of(code);
-    match k {
-        Columns::Cols(cols) => add_cols(frame, run, w, wb, wt, part, code, usize::from(cols)),
-        Columns::Control => w,
-        Columns::OffList => w,
+    match columns_of(code) {
+        Columns::Cols(cols) => add_cols(block, run, ann, part, code, usize::from(cols)),
+        Columns::Control | Columns::OffList => ann,
     }
 }
 
 // A break point closes a word with columns, but not in Pre.
-fn break_word(
-    frame: Frame,
-    run: Run,
-    st: State,
-    code: u32,
-    lb: &mut [u8],
-    lt: &mut [u32],
-    wb: &[u8],
-    wt: &[u32],
-    out: &mut [u8],
-) -> Result<State, TooNarrow>
-    requires { CountsWithinUnits frame st × BuffersLongEnough frame (length lb.old) (length lt.old) (length wb.now) (length wt.now) }
-    ensures stays_within_units { StaysWithinUnits frame st.used result }
-    ensures breaks_word { BreaksWord frame run st code
-        lb.old lt.old wb.now wt.now out.old result
-        lb.new lt.new out.new }
+fn break_word(block: &mut WrappedBlock<'_>, mode: WhiteSpace, code: u32) -> Result<(), TooNarrow>
+    requires { CountsWithinUnits block.old × BuffersLongEnough block.old }
+    ensures stays { BlockStays block.old block.new }
+    ensures stays_within_units { StaysWithinUnits block.old.used result block.new }
+    ensures breaks_word { BreaksWord block.old mode code result block.new }
 {
-    if st.word.cols == 0 || run.mode == 1 {
-        return Ok(st);
+    if block.word.cols == 0 || mode == WhiteSpace::Pre {
+        return Ok(());
     }
     if is_wordbreak_point(code) {
-        return flush_word(frame, st, lb, lt, wb, wt, out);
+        return block.flush_word();
     }
-    Ok(st)
+    Ok(())
 }
 
 // White space, but for U+00A0.
 fn add_blank(
-    frame: Frame,
+    block: &mut WrappedBlock<'_>,
     run: Run,
-    w: Walk,
+    ann: u32,
     code: u32,
     part: &[u8],
-    lb: &mut [u8],
-    lt: &mut [u32],
-    wb: &mut [u8],
-    wt: &mut [u32],
-    out: &mut [u8],
-) -> Result<Walk, TooNarrow>
-    requires ready { Ready frame w (length part.now) × BuffersLongEnough frame (length lb.old) (length lt.old) (length wb.old) (length wt.old) }
+) -> Result<u32, TooNarrow>
+    requires ready { Ready block.old ann (length part.now) }
     requires char_is { CharIs part.now code × RunSmall run }
-    ensures walk_small { WalkSmall frame (w.st.used + length part.now) result }
-    ensures adds_blank { AddsBlank frame run w code
-        lb.old lt.old wb.old wt.old out.old result
-        lb.new lt.new wb.new wt.new out.new }
+    ensures stays { BlockStays block.old block.new }
+    ensures walk_small { WalkSmall (block.old.used + length part.now) result block.new }
+    ensures adds_blank { AddsBlank block.old run ann code result block.new }
 {
-    if run.mode == 0 {
-        return Ok(add_collapsed(frame, w));
+    match (run.mode, code) {
+        (WhiteSpace::Normal, _) => collapse(block, run.mode.tag(ann)),
+        (_, 0x0A) => return add_newline(block, run),
+        (_, 0x09) => return add_tab(block, run.mode, ann),
+        _ => add_kept(block, run.mode, ann, part, code),
     }
-    if code == 0x0A {
-        return add_newline(frame, run, w.st, lb, lt, wb, wt, out);
-    }
-    if code == 0x09 {
-        return add_tab(frame, w, run.mode, lb, lt, wb, wt, out);
-    }
-    Ok(add_kept(frame, w, run.mode, wb, wt, part, code))
+    Ok(ann)
 }
 
 // The character itself, the word before it closed or not.
 fn put_char(
-    frame: Frame,
+    block: &mut WrappedBlock<'_>,
     run: Run,
-    w: Walk,
+    ann: u32,
     code: u32,
     part: &[u8],
-    lb: &mut [u8],
-    lt: &mut [u32],
-    wb: &mut [u8],
-    wt: &mut [u32],
-    out: &mut [u8],
-) -> Result<Walk, TooNarrow>
-    requires ready { Ready frame w (length part.now) × BuffersLongEnough frame (length lb.old) (length lt.old) (length wb.old) (length wt.old) }
+) -> Result<u32, TooNarrow>
+    requires ready { Ready block.old ann (length part.now) }
     requires char_is { CharIs part.now code × RunSmall run }
-    ensures walk_small { WalkSmall frame (w.st.used + length part.now) result }
-    ensures puts_char { PutsChar frame run w code
-        lb.old lt.old wb.old wt.old out.old result
-        lb.new lt.new wb.new wt.new out.new }
+    ensures stays { BlockStays block.old block.new }
+    ensures walk_small { WalkSmall (block.old.used + length part.now) result block.new }
+    ensures puts_char { PutsChar block.old run ann code result block.new }
 {
     if code == 0x200B {
-        return Ok(w);
+        return Ok(ann);
     }
     if always_takes_space(code) {
-        return Ok(add_word_char(frame, run, w, wb, wt, part, code));
+        return Ok(add_word_char(block, run, ann, part, code));
     }
-    add_blank(frame, run, w, code, part, lb, lt, wb, wt, out)
+    add_blank(block, run, ann, code, part)
 }
 
-// One character.
+// One character, and the annotation in use after it.
 pub fn add_char(
-    frame: Frame,
+    block: &mut WrappedBlock<'_>,
     run: Run,
-    w: Walk,
+    ann: u32,
     code: u32,
     part: &[u8],
-    lb: &mut [u8],
-    lt: &mut [u32],
-    wb: &mut [u8],
-    wt: &mut [u32],
-    out: &mut [u8],
-) -> Result<Walk, TooNarrow>
-    requires ready { Ready frame w (length part.now) × BuffersLongEnough frame (length lb.old) (length lt.old) (length wb.old) (length wt.old) }
+) -> Result<u32, TooNarrow>
+    requires ready { Ready block.old ann (length part.now) }
     requires char_is { CharIs part.now code × RunSmall run }
-    ensures walk_small { WalkSmall frame (w.st.used + length part.now) result }
-    ensures adds_char { AddsChar frame run w code
-        lb.old lt.old wb.old wt.old out.old result
-        lb.new lt.new wb.new wt.new out.new }
+    ensures stays { BlockStays block.old block.new }
+    ensures walk_small { WalkSmall (block.old.used + length part.now) result block.new }
+    ensures adds_char { AddsChar block.old run ann code result block.new }
 {
-    let st = break_word(frame, run, w.st, code, lb, lt, wb, wt, out)?;
-    let on = Walk { st, ..w };
-    put_char(frame, run, on, code, part, lb, lt, wb, wt, out)
+    break_word(block, run.mode, code)?;
+    put_char(block, run, ann, code, part)
 }

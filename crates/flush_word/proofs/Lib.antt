@@ -1,3 +1,4 @@
+pub mod Modes
 pub mod Trimming
 pub mod Flushing
 pub mod Wrapping

@@ -5,35 +5,41 @@ use mathlib.Core.Bool.{Bool, true, false, ◌&&◌, and-false}
 use mathlib.Core.Option.{Option, none, some}
 use mathlib.Core.List.{List, [], ◌∷◌, ◌++◌, map}
 use mathlib.Core.Logic.{inl}
-use Prim.Native.Nat.{ℕ, ◌+◌, ◌-◌, ◌/◌, ◌%◌, ◌<◌, ◌≤◌}
+use Prim.Native.Nat.{ℕ, zero, suc, ◌+◌, ◌-◌, ◌/◌, ◌%◌, ◌<◌, ◌≤◌}
 use native.Mathlib.Omega.{arith}
 use borrow.Author.Tests.{lt-ltb, le-ltb, eq-eqb, ne_eqb, eqb-true}
+use denote.Enum.Bare.{sameb}
 use lib.Dec.{ltb, leb, eqb}
-use lib.ListN.{length, drop, get_or, length-append, length-drop, drop_of_length-le}
-use lib.Seq.{drop-drop}
-use Rattle.std.specs.Prelude.{Option as Found, Some, None, cond, if◌then◌else◌}
+use lib.ListN.{length, take, drop, get_or, length-append, length-drop, length-map, drop_of_length-le}
+use lib.Seq.{drop-drop, length-take-le}
+use Rattle.std.specs.Prelude.{Option as Found, Some, None, if◌then◌else◌}
 use Rattle.std.specs.List.{find}
+use Rattle.std.proofs.lemmas.List.{drop-map, get_or-drop}
 use Rattle.characters.specs.Utf8.{utf8, char as first_char, decode_of, Scalar}
-use Rattle.characters.specs.Columns.{or_zero, cols}
 use Rattle.characters.specs.Whitespace.{is_whitespace}
 use Rattle.std.specs.Prelude as rust
 use Rattle.characters.specs.declared.utf8.Char.{Char}
 use Rattle.characters.proofs.Tests.{by_if}
-use Rattle.characters.proofs.Tables.{ascii_one}
 use Rattle.characters.proofs.RoundTrip.{same_char, decode_complete}
 use Rattle.fields.specs.Job.{Mode, normal, pre, pre_wrap}
 use Rattle.fields.specs.declared.job.Setup.{Setup}
+use Rattle.fields.proofs.Texts.{rest as part_rest}
 use Rattle.block.specs.Tag.{Tag, is_pre}
 use Rattle.block.specs.Flat.{Line, char, name, columns, trim_front, keep_last, trim_back, Block, left, flat_at_wrap, drop_blanks, starts_pre}
-use Rattle.lines.specs.Items.{Item, item, byte_of, tag_of, zip, items, mark_tag, name_tag}
-use Rattle.lines.specs.Bridge.{mode_no, num, tagged, enc, Valid}
-use Rattle.lines.proofs.Buffers.{zip_bytes, zip_tags, zip_nil, items_length, items_more, zip_drop, drop_tagged}
+use Rattle.block.proofs.Width.{cols_space}
+use Rattle.lines.specs.Items.{Item, item, byte_of, tag_of, mark_tag, name_tag}
+use Rattle.lines.specs.Bridge.{num, tagged, enc, Valid}
+use Rattle.lines.proofs.Buffers.{drop_tagged}
 use Rattle.lines.proofs.Encoded.{utf8_some, utf8_pos, num_small, enc_none}
-use Rattle.hard_wrap.specs.declared.line.Open.{Open}
-use Rattle.hard_wrap.proofs.Words.{name_at}
-use Rattle.flush_word.specs.Trims.{White, TrimsFront, TrimsBack}
-use Rattle.flush_word.specs.Keep.{Pends, Trimmed, TrimsLine, StartsPre}
+use Rattle.hard_wrap.specs.declared.line.OpenLine.{OpenLine}
+use Rattle.flush_word.specs.Modes.{TagMode}
+use Rattle.flush_word.specs.Trims.{White, TrimsFront, TrimsBack, Trimmed, TrimsLine}
+use Rattle.flush_word.specs.Keep.{Pends, StartsPre, StartsAt}
 use Rattle.flush_word.specs.declared.state.Blanks.{Blanks}
+use Rattle.flush_word.specs.contracts.white_space.WhiteSpace.{the_type}
+use Rattle.flush_word.specs.declared.white_space.WhiteSpace.{WhiteSpace}
+use Rattle.flush_word.specs.declared.white_space.WhiteSpace.TheVariants.{Pre, PreWrap}
+use Rattle.flush_word.proofs.Modes.{same_pre, wrap_mode}
 
 -- ---- the first character
 
@@ -68,31 +74,44 @@ bytes_tagged t [] l = refl
 bytes_tagged t (b ∷ bs) l = ap (λ (z : List ℕ). b ∷ z) (bytes_tagged t bs l)
 
 -- what is left of a word, trimmed, is the word trimmed
-pub record Rest (w : Line) (bs ts : List ℕ) : Type 0 where
+pub record Rest (w : Line) (items : List Item) : Type 0 where
   pub rest : Line
   pub valid : Valid rest
-  pub held : zip bs ts ≡ enc rest
+  pub held : items ≡ enc rest
   pub same : trim_front w ≡ trim_front rest
 
-module _ (bs ts : List ℕ) (same : length bs ≡ length ts) where
-  bytes_are : (l : List Item) → zip bs ts ≡ l → bs ≡ map byte_of l
-  bytes_are l e = sym (zip_bytes bs ts same) ∙ ap (map byte_of) e
+-- the word's front, as it is
+pub rest_start : (items : List Item) (w : Line) → Valid w → items ≡ enc w → Rest w items
+rest_start items w v e = record { rest = w; valid = v; held = e; same = refl }
 
-  char_bytes : (c : ℕ) (t : Tag) (l : Line) → zip bs ts ≡ enc (char c t ∷ l) → bs ≡ utf8 c ++ map byte_of (enc l)
+module _ (items : List Item) where
+  char_bytes : (c : ℕ) (t : Tag) (l : Line) → items ≡ enc (char c t ∷ l) → map byte_of items ≡ utf8 c ++ map byte_of (enc l)
   unfolding enc
-  char_bytes c t l e = bytes_are (tagged (num t) (utf8 c) ++ enc l) e ∙ bytes_tagged (num t) (utf8 c) (enc l)
+  char_bytes c t l e = ap (map byte_of) e ∙ bytes_tagged (num t) (utf8 c) (enc l)
 
-  name_bytes : (n : List ℕ) (l : Line) → zip bs ts ≡ enc (name n ∷ l) → bs ≡ utf8 0 ++ map byte_of (tagged name_tag n ++ enc l)
+  name_bytes : (n : List ℕ) (l : Line) → items ≡ enc (name n ∷ l) → map byte_of items ≡ utf8 0 ++ map byte_of (tagged name_tag n ++ enc l)
   unfolding enc utf8
-  name_bytes n l e = bytes_are (item 0 mark_tag ∷ tagged name_tag n ++ enc l) e
+  name_bytes n l e = ap (map byte_of) e
 
-  module _ (r : ℕ) (g : White bs r) where
+  tag_first : (c : ℕ) (t : Tag) (l : Line) → get_or (map tag_of (enc (char c t ∷ l))) 0 0 ≡ num t
+  unfolding enc tagged
+  tag_first c t l = let u = utf8_some c in rw u.is
+
+  -- a name stands first
+  name_first : (l : Line) → Valid l → items ≡ enc l → mark_tag ≤ get_or (map tag_of items) 0 0 → trim_front l ≡ l
+  unfolding trim_front
+  name_first [] v e h = refl
+  name_first (name n ∷ l) v e h = refl
+  name_first (char c t ∷ l) (x, a, v) e h =
+      absurd (let s = num_small t a in let f : get_or (map tag_of items) 0 0 ≡ num t = ap (λ (z : List Item). get_or (map tag_of z) 0 0) e ∙ tag_first c t l in omega arith)
+
+  module _ (r : ℕ) (g : White (map byte_of items) r) where
     -- a name starts with no white space
-    white_name : (n : List ℕ) (l : Line) → zip bs ts ≡ enc (name n ∷ l) → r ≡ 0
+    white_name : (n : List ℕ) (l : Line) → items ≡ enc (name n ∷ l) → r ≡ 0
     unfolding is_whitespace
     white_name n l e = g 0 _ (inl (omega arith), omega arith) (name_bytes n l e)
 
-    white_stop : (l : Line) → Valid l → zip bs ts ≡ enc l → r ≡ 0 → trim_front l ≡ l
+    white_stop : (l : Line) → Valid l → items ≡ enc l → r ≡ 0 → trim_front l ≡ l
     unfolding trim_front
     white_stop [] v e z = refl
     white_stop (name n ∷ l) v e z = refl
@@ -102,59 +121,72 @@ module _ (bs ts : List ℕ) (same : length bs ≡ length ts) where
         go true f = absurd (let p = utf8_pos c in omega arith)
         go false f = refl
 
-    white_on : (l : Line) → Valid l → zip bs ts ≡ enc l → 0 < r → r ≤ length bs → Rest l (drop r bs) (drop r ts)
+    white_on : (l : Line) → Valid l → items ≡ enc l → 0 < r → r ≤ length items → Rest l (drop r items)
     unfolding trim_front enc
-    white_on [] v e h k = absurd (let z : length bs ≡ 0 = ap length (bytes_are [] e) in omega arith)
+    white_on [] v e h k = absurd (let z : length items ≡ 0 = ap length e in omega arith)
     white_on (name n ∷ l) v e h k = absurd (let z = white_name n l e in omega arith)
     white_on (char c t ∷ l) (x, y, v) e h k = go (is_whitespace c) refl (g c _ x (char_bytes c t l e))
       where
-        go : (w : Bool) → is_whitespace c ≡ w → r ≡ (if w then length (utf8 c) else 0) → Rest (char c t ∷ l) (drop r bs) (drop r ts)
+        go : (w : Bool) → is_whitespace c ≡ w → r ≡ (if w then length (utf8 c) else 0) → Rest (char c t ∷ l) (drop r items)
         go true q f =
             record {
               rest = l;
               valid = v;
-              held = zip_drop r bs ts ∙ ap (drop r) e ∙ ap (λ (n : ℕ). drop n (tagged (num t) (utf8 c) ++ enc l)) f ∙ drop_tagged (num t) (utf8 c) (enc l);
+              held = ap (drop r) e ∙ ap (λ (n : ℕ). drop n (tagged (num t) (utf8 c) ++ enc l)) f ∙ drop_tagged (num t) (utf8 c) (enc l);
               same = rw q;
             }
         go false q f = absurd (omega arith)
 
 -- the loop over a word's front, at i
-module _ (wb wt : List ℕ) (same : length wb ≡ length wt) (i : ℕ) where
-  rest_same : length (drop i wb) ≡ length (drop i wt)
-  rest_same = length-drop i wb ∙ ap (λ (n : ℕ). n - i) same ∙ sym (length-drop i wt)
+module _ (items : List Item) (i : ℕ) (p : (w : Line) → Valid w → items ≡ enc w → Rest w (drop i items)) where
+  -- what is left stands as it is
+  left_is : ((l : Line) → Valid l → drop i items ≡ enc l → trim_front l ≡ l) → TrimsFront items i
+  left_is f = λ w v e.
+      let o = p w v e in
+      o.held ∙ ap enc (sym (o.same ∙ f o.rest o.valid o.held))
 
-  module _ (p : (w : Line) → Valid w → zip wb wt ≡ enc w → Rest w (drop i wb) (drop i wt)) where
-    -- what is left stands as it is
-    left_is : ((l : Line) → Valid l → zip (drop i wb) (drop i wt) ≡ enc l → trim_front l ≡ l) → TrimsFront wb wt i
-    left_is f = λ w v e.
-        let o = p w v e in
-        o.held ∙ ap enc (sym (o.same ∙ f o.rest o.valid o.held))
+  -- Nothing is left.
+  pub front_end : (tags : List ℕ) → tags ≡ map tag_of items → length tags ≤ i → TrimsFront items i
+  unfolding trim_front
+  front_end tags et h =
+      let n : length tags ≡ length items = ap length et ∙ length-map items tag_of in
+      left_is (λ l v e.
+      let z : l ≡ [] = enc_none l (sym e ∙ drop_of_length-le items (omega arith)) in
+      rw z)
 
-    pub front_end : length wt ≤ i → TrimsFront wb wt i
-    unfolding trim_front
-    front_end h =
-        left_is (λ l v e.
-        let z : l ≡ [] = enc_none l (sym e ∙ ap (zip (drop i wb)) (drop_of_length-le wt h) ∙ zip_nil (drop i wb)) in
-        rw z)
+  -- A name stands there.
+  pub front_name : (tags : List ℕ) → tags ≡ map tag_of items → mark_tag ≤ get_or tags i 0 → TrimsFront items i
+  front_name tags et h =
+      let d : drop i tags ≡ map tag_of (drop i items) = ap (drop i) et ∙ drop-map tag_of i items in
+      let f : get_or (map tag_of (drop i items)) 0 0 ≡ get_or tags i 0 =
+      ap (λ (l : List ℕ). get_or l 0 0) (sym d) ∙ get_or-drop i tags 0 0 ∙ ap (λ (n : ℕ). get_or tags n 0) (omega arith) in
+      left_is (λ l v e. name_first (drop i items) l v e (omega (arith, f)))
 
-    pub front_name : i < length wt → mark_tag ≤ get_or wt i 0 → TrimsFront wb wt i
-    unfolding trim_front
-    front_name h k = left_is (λ l v e. rw (name_at wb wt same i h l v e k).is)
+  module _ (bytes : List ℕ) (eb : bytes ≡ map byte_of items) (r : ℕ) (g : White (take (length bytes - i) (drop i bytes)) r) where
+    white : White (map byte_of (drop i items)) r
+    white = rw (part_rest bytes i, ap (drop i) eb ∙ drop-map byte_of i items) at g
 
-    module _ (r : ℕ) (g : White (drop i wb) r) where
-      pub front_stop : r ≡ 0 → TrimsFront wb wt i
-      front_stop z = left_is (λ l v e. white_stop (drop i wb) (drop i wt) rest_same r g l v e z)
+    -- No white space stands there.
+    pub front_stop : r ≡ 0 → TrimsFront items i
+    front_stop z = left_is (λ l v e. white_stop (drop i items) r white l v e z)
 
-      pub front_on : 0 < r → r ≤ length wb - i → (w : Line) → Valid w → zip wb wt ≡ enc w → Rest w (drop (i + r) wb) (drop (i + r) wt)
-      front_on h k w v e =
-          let o = p w v e in
-          let n = white_on (drop i wb) (drop i wt) rest_same r g o.rest o.valid o.held h (omega (arith, length-drop i wb)) in
-          record {
-            rest = n.rest;
-            valid = n.valid;
-            held = rw (← drop-drop r i wb, ← drop-drop r i wt) n.held;
-            same = o.same ∙ n.same;
-          }
+    -- White space is passed.
+    pub front_on : 0 < r → r ≤ length (take (length bytes - i) (drop i bytes)) → i ≤ length items
+        → (i + r ≤ length items) × ((w : Line) → Valid w → items ≡ enc w → Rest w (drop (i + r) items))
+    front_on h k j =
+        let l : length bytes ≡ length items = ap length eb ∙ length-map items byte_of in
+        let m : length (take (length bytes - i) (drop i bytes)) ≡ length bytes - i = ap length (part_rest bytes i) ∙ length-drop i bytes in (
+          omega arith,
+          λ w v e.
+              let o = p w v e in
+              let n = white_on (drop i items) r white o.rest o.valid o.held h (omega (arith, length-drop i items)) in
+              record {
+                rest = n.rest;
+                valid = n.valid;
+                held = rw (← drop-drop r i items) n.held;
+                same = o.same ∙ n.same;
+              },
+        )
 
 -- ---- the end
 
@@ -255,10 +287,6 @@ trim_enc (char c t ∷ l) (x, h, v) = trim_char t l (trim_back l) h (trim_enc l 
 
 -- ---- columns: each entry gone was one
 
-space_cols : cols 0x20 ≡ 1
-unfolding cols
-space_cols = ap or_zero (ascii_one 0x20 (omega arith) (omega arith))
-
 -- the columns and the entries of a line and of what is left of it differ by as many
 abbrev Evenly : Line → Line → Type 0
 Evenly l m = columns l + length (enc m) ≡ columns m + length (enc l)
@@ -273,7 +301,7 @@ even_char c t l m e = omega (arith, length-append (tagged (num t) (utf8 c)) (enc
 
 even_space : (t : Tag) (l m : Line) → Evenly l m → Evenly (char 0x20 t ∷ l) (keep_last (char 0x20 t) m)
 unfolding columns enc tagged utf8
-even_space t l [] e = let s = space_cols in omega arith
+even_space t l [] e = let s = cols_space in omega arith
 even_space t l (x ∷ m) e = even_char 0x20 t l (x ∷ m) e
 
 even_keep : (c : ℕ) (t : Tag) (l m : Line) (b : Bool) → eqb c 0x20 ≡ b → Evenly l m → Evenly (char c t ∷ l) (keep_last (char c t) m)
@@ -296,132 +324,147 @@ trim_valid [] v = tt
 trim_valid (name n ∷ l) v = trim_valid l v
 trim_valid (char c t ∷ l) (x, h, v) = keep_valid c t (trim_back l) x h (trim_valid l v)
 
+take_next : (items : List Item) (k : ℕ) → k < length items → take (suc k) items ≡ take k items ++ (item (get_or (map byte_of items) k 0) (get_or (map tag_of items) k 0) ∷ [])
+take_next [] k h = absurd (omega (arith, h))
+take_next (x ∷ items) zero h = refl
+take_next (x ∷ items) (suc k) h = ap (λ (l : List Item). x ∷ l) (take_next items k (omega (arith, h)))
+
 -- the loop over a line's end, at k
-module _ (lb lt : List ℕ) where
-  pub back_none : (k : ℕ) → k ≤ 0 → trim (items lb lt k) ≡ items lb lt k
-  unfolding trim items
+module _ (items : List Item) where
+  -- No entry is left.
+  pub back_none : (k : ℕ) → k ≤ 0 → trim (take k items) ≡ take k items
+  unfolding trim
   back_none k h = let z : k ≡ 0 = omega arith in rw z
 
-  module _ (k : ℕ) (p : 0 < k) (hb : k ≤ length lb) (ht : k ≤ length lt) where
+  module _ (k : ℕ) (p : 0 < k) (h : k ≤ length items) (bytes tags : List ℕ) (eb : bytes ≡ map byte_of items) (et : tags ≡ map tag_of items) where
     -- the last entry
-    last : items lb lt k ≡ items lb lt (k - 1) ++ (item (get_or lb (k - 1) 0) (get_or lt (k - 1) 0) ∷ [])
-    last = let e : k ≡ k - 1 + 1 = omega arith in ap (items lb lt) e ∙ items_more lb lt (k - 1) (omega arith) (omega arith)
+    last : take k items ≡ take (k - 1) items ++ (item (get_or bytes (k - 1) 0) (get_or tags (k - 1) 0) ∷ [])
+    last = let e : k ≡ suc (k - 1) = omega arith in ap (λ (n : ℕ). take n items) e ∙ rw (eb, et) (take_next items (k - 1) (omega arith))
 
-    kept : blank (item (get_or lb (k - 1) 0) (get_or lt (k - 1) 0)) ≡ false → trim (items lb lt k) ≡ items lb lt k
-    kept e = ap trim last ∙ trim_kept (items lb lt (k - 1)) _ e ∙ sym last
+    kept : blank (item (get_or bytes (k - 1) 0) (get_or tags (k - 1) 0)) ≡ false → trim (take k items) ≡ take k items
+    kept e = ap trim last ∙ trim_kept (take (k - 1) items) _ e ∙ sym last
 
-    pub back_non_space : (get_or lb (k - 1) 0 ≡ 0x20 → ⊥) → trim (items lb lt k) ≡ items lb lt k
-    back_non_space n = kept (rw (ne_eqb (get_or lb (k - 1) 0) 0x20 n))
+    -- It is no space.
+    pub back_non_space : (get_or bytes (k - 1) 0 ≡ 0x20 → ⊥) → trim (take k items) ≡ take k items
+    back_non_space n = kept (rw (ne_eqb (get_or bytes (k - 1) 0) 0x20 n))
 
-    pub back_name : mark_tag ≤ get_or lt (k - 1) 0 → trim (items lb lt k) ≡ items lb lt k
-    back_name h = kept (rw (le-ltb (get_or lt (k - 1) 0) mark_tag h) (and-false (eqb (get_or lb (k - 1) 0) 0x20)))
+    -- It is a name's.
+    pub back_name : mark_tag ≤ get_or tags (k - 1) 0 → trim (take k items) ≡ take k items
+    back_name m = kept (rw (le-ltb (get_or tags (k - 1) 0) mark_tag m) (and-false (eqb (get_or bytes (k - 1) 0) 0x20)))
 
-    pub back_space : get_or lb (k - 1) 0 ≡ 0x20 → get_or lt (k - 1) 0 < mark_tag → trim (items lb lt k) ≡ trim (items lb lt (k - 1))
-    back_space e h = ap trim last ∙ trim_gone (items lb lt (k - 1)) _ (rw (eq-eqb (get_or lb (k - 1) 0) 0x20 e, lt-ltb (get_or lt (k - 1) 0) mark_tag h))
+    -- It is a space.
+    pub back_space : get_or bytes (k - 1) 0 ≡ 0x20 → get_or tags (k - 1) 0 < mark_tag → trim (take k items) ≡ trim (take (k - 1) items)
+    back_space e m = ap trim last ∙ trim_gone (take (k - 1) items) _ (rw (eq-eqb (get_or bytes (k - 1) 0) 0x20 e, lt-ltb (get_or tags (k - 1) 0) mark_tag m))
 
-  pub back_done : (n k : ℕ) → k ≤ n → n ≤ length lb → n ≤ length lt → trim (items lb lt n) ≡ trim (items lb lt k) → trim (items lb lt k) ≡ items lb lt k → TrimsBack lb lt n k
-  back_done n k h hb ht e f = λ l v q.
-      let a : items lb lt k ≡ enc (trim_back l) = sym f ∙ sym e ∙ ap trim q ∙ trim_enc l v in
-      let x : length (enc l) ≡ n = ap length (sym q) ∙ items_length lb lt n hb ht in
-      let y : length (enc (trim_back l)) ≡ k = ap length (sym a) ∙ items_length lb lt k (omega arith) (omega arith) in
+  -- The spaces end at k.
+  pub back_done : (k : ℕ) → k ≤ length items → trim items ≡ trim (take k items) → trim (take k items) ≡ take k items → TrimsBack items k
+  back_done k h e f = λ l v q.
+      let a : take k items ≡ enc (trim_back l) = sym f ∙ sym e ∙ ap trim q ∙ trim_enc l v in
+      let x : length (enc l) ≡ length items = ap length (sym q) in
+      let y : length (enc (trim_back l)) ≡ k = ap length (sym a) ∙ length-take-le k items h in
       (a, omega (arith, trim_even l))
 
--- the line without the spaces at its end
-pub line_trimmed : (st r : Open) (lb lt : List ℕ) → Trimmed st r → TrimsBack lb lt st.n r.n → TrimsLine st lb lt r
-line_trimmed st r lb lt x g = λ d₀ base b out o.
-    let y = g b.line o.valid o.line in
+-- The line without the spaces at its end.
+pub line_trimmed : (o r : OpenLine) (n : ℕ) → r.entries.items ≡ take n o.entries.items → n ≡ length r.entries.items → Trimmed o r → TrimsBack o.entries.items n → TrimsLine o r
+line_trimmed o r n e z x g = λ d₀ base b h.
+    let y = g b.line h.valid h.line in
     record {
-      line = y.0;
-      valid = trim_valid b.line o.valid;
-      cols = (let c = y.1 in omega (arith, x.cols, o.cols));
-      store = o.store;
-      place = x.place ∙ o.place;
-      lines = x.lines ∙ o.lines;
+      line = e ∙ y.0;
+      valid = trim_valid b.line h.valid;
+      cols = (let c = y.1 in let k = h.cols in omega (arith, x.cols, z));
+      store = rw x.text h.store;
+      place = rw x.text h.place;
+      lines = rw x.text h.lines;
     }
 
 -- ---- the mode of the first text
 
-unfoldable pub first_pre : List ℕ → Bool
-first_pre [] = false
-first_pre (t ∷ ts) = if ltb t mark_tag then eqb (t / 65536) 1 else first_pre ts
+find_name : (n : List ℕ) (l : List Item) → find (λ t. ltb t mark_tag) (map tag_of (tagged name_tag n ++ l)) ≡ find (λ t. ltb t mark_tag) (map tag_of l)
+unfolding tagged
+find_name [] l = refl
+find_name (b ∷ n) l = find_name n l
 
-pre_name : (n : List ℕ) (l : List Item) → first_pre (map tag_of (tagged name_tag n ++ l)) ≡ first_pre (map tag_of l)
-unfolding first_pre tagged
-pre_name [] l = refl
-pre_name (b ∷ n) l = pre_name n l
+-- a tag that is the first text's
+record Text (w : Line) (n : ℕ) : Type 0 where
+  tag : Tag
+  is : n ≡ num tag
+  ann : tag.ann < 256
+  pre : starts_pre w ≡ is_pre tag.mode
 
-pub num_mode : (t : Tag) → t.ann < 256 → num t / 65536 ≡ mode_no t.mode
-unfolding num
-num_mode t h = omega arith
+-- the first text's tag, if there is text
+abbrev FirstText : Line → Found ℕ → Type 0
+FirstText w None = starts_pre w ≡ false
+FirstText w (Some n) = Text w n
 
-mode_pre : (m : Mode) → eqb (mode_no m) 1 ≡ is_pre m
-mode_pre normal = refl
-mode_pre pre = refl
-mode_pre pre_wrap = refl
+text_first : (t : Tag) (b : ℕ) (bs : List ℕ) (l : List Item) → t.ann < 256 → find (λ u. ltb u mark_tag) (map tag_of (tagged (num t) (b ∷ bs) ++ l)) ≡ Some (num t)
+unfolding tagged
+text_first t b bs l h = rw (lt-ltb (num t) mark_tag (let s = num_small t h in omega arith))
 
-pre_text : (t : Tag) (b : ℕ) (bs : List ℕ) (l : List Item) → t.ann < 256 → first_pre (map tag_of (tagged (num t) (b ∷ bs) ++ l)) ≡ is_pre t.mode
-unfolding first_pre tagged
-pre_text t b bs l h = rw (lt-ltb (num t) mark_tag (let s = num_small t h in omega arith), num_mode t h) (mode_pre t.mode)
+name_on : (n : List ℕ) (w : Line) (r : Found ℕ) → FirstText w r → FirstText (name n ∷ w) r
+name_on n w None h = h
+name_on n w (Some k) h = record { tag = h.tag; is = h.is; ann = h.ann; pre = h.pre }
 
-pre_enc : (w : Line) → Valid w → first_pre (map tag_of (enc w)) ≡ starts_pre w
-unfolding first_pre enc
-pre_enc [] v = refl
-pre_enc (name n ∷ w) v = pre_name n (enc w) ∙ pre_enc w v
-pre_enc (char c t ∷ w) (x, h, v) = let u = utf8_some c in rw u.is (pre_text t u.first u.more (enc w) h)
+first_text : (w : Line) → Valid w → FirstText w (find (λ t. ltb t mark_tag) (map tag_of (enc w)))
+unfolding enc
+first_text [] v = refl
+first_text (name n ∷ w) v = rw (find_name n (enc w)) (name_on n w _ (first_text w v))
+first_text (char c t ∷ w) (x, h, v) =
+    let u = utf8_some c in
+    rw (u.is, text_first t u.first u.more (enc w) h) (record { tag = t; is = refl; ann = h; pre = refl })
 
-module _ (wt : List ℕ) where
-  pub starts_pre_lem : (r : Bool) → r ≡ first_pre wt → StartsPre wt r
-  starts_pre_lem r e = λ wb w v same q. e ∙ ap first_pre (sym (zip_tags wb wt same) ∙ ap (map tag_of) q) ∙ pre_enc w v
+module _ (items : List Item) (tags : List ℕ) (et : tags ≡ map tag_of items) where
+  -- There is no text.
+  pub pre_none : None ≡ find (λ t. ltb t mark_tag) tags → StartsPre items false
+  pre_none f = λ w v e.
+      let s : None ≡ find (λ t. ltb t mark_tag) (map tag_of (enc w)) = rw (et, e) at f in
+      let y : starts_pre w ≡ false = rw (← s) at (first_text w v) in
+      sym y
 
--- the same of the first text's tag
-abbrev of_first : Found ℕ → Bool
-of_first None = false
-of_first (Some t) = eqb (t / 65536) 1
-
-first_is : (ts : List ℕ) → first_pre ts ≡ of_first (find (λ t. ltb t mark_tag) ts)
-unfolding first_pre
-first_is [] = refl
-first_is (t ∷ ts) = step (ltb t mark_tag) (first_is ts)
-  where
-    step : (b : Bool) → first_pre ts ≡ of_first (find (λ u. ltb u mark_tag) ts) → (if b then eqb (t / 65536) 1 else first_pre ts) ≡ of_first (cond b (Some t) (find (λ u. ltb u mark_tag) ts))
-    step true e = refl
-    step false e = e
-
--- The first text is found.
-pub pre_found : (ts : List ℕ) (t : ℕ) → Some t ≡ find (λ u. ltb u mark_tag) ts → eqb (t / 65536) 1 ≡ first_pre ts
-pre_found ts t e = ap of_first e ∙ sym (first_is ts)
-
--- There is none.
-pub pre_none : (ts : List ℕ) → None ≡ find (λ u. ltb u mark_tag) ts → false ≡ first_pre ts
-pre_none ts e = ap of_first e ∙ sym (first_is ts)
+  -- The first text is found.
+  pub pre_found : (n : ℕ) → Some n ≡ find (λ t. ltb t mark_tag) tags → (m : WhiteSpace) → TagMode n m → (r : Bool) → r ≡ sameb the_type m Pre → StartsPre items r
+  pre_found n f m g r q = λ w v e.
+      let s : Some n ≡ find (λ t. ltb t mark_tag) (map tag_of (enc w)) = rw (et, e) at f in
+      let y : Text w n = rw (← s) at (first_text w v) in
+      q ∙ same_pre m ∙ ap is_pre (g y.tag y.is y.ann) ∙ sym y.pre
 
 -- ---- where a word starts
 
 -- only PreWrap changes the word
-word_normal : (s : Setup) (t : Tag) (m : Mode) (b : Block) → (mode_no m ≡ 2 → ⊥) → (flat_at_wrap s t m b).word ≡ b.word
+word_kept : (s : Setup) (t : Tag) (m : Mode) (b : Block) → (m ≡ pre_wrap → ⊥) → (flat_at_wrap s t m b).word ≡ b.word
 unfolding flat_at_wrap
-word_normal s t normal b n = refl
-word_normal s t pre b n = by_if (λ (z : Block). z.word ≡ b.word) (leb (left s b) b.wslen) (λ e. refl) (λ e. refl)
-word_normal s t pre_wrap b n = absurd (n refl)
+word_kept s t normal b n = refl
+word_kept s t pre b n = by_if (λ (z : Block). z.word ≡ b.word) (leb (left s b) b.wslen) (λ e. refl) (λ e. refl)
+word_kept s t pre_wrap b n = absurd (n refl)
 
-word_trimmed : (s : Setup) (t : Tag) (m : Mode) (b : Block) → mode_no m ≡ 2 → (flat_at_wrap s t m b).word ≡ trim_front b.word
+word_trimmed : (s : Setup) (t : Tag) (m : Mode) (b : Block) → pre_wrap ≡ m → (flat_at_wrap s t m b).word ≡ trim_front b.word
 unfolding flat_at_wrap
-word_trimmed s t normal b e = absurd (omega arith)
-word_trimmed s t pre b e = absurd (omega arith)
-word_trimmed s t pre_wrap b e = refl
+word_trimmed s t m b e = rw (← e)
 
-module _ (p : Blanks) (s : Setup) (b : Block) where
-  pub drop_none : (o : Option Tag) → Pends p o → p.count ≡ 0 → (drop_blanks s o b).word ≡ b.word
-  unfolding drop_blanks
-  drop_none none q z = refl
-  drop_none (some t) q z = absurd (omega (arith, q.0))
+drop_none : (p : Blanks) (s : Setup) (b : Block) (o : Option Tag) → Pends p o → p.count ≡ 0 → (drop_blanks s o b).word ≡ b.word
+unfolding drop_blanks
+drop_none p s b none q z = refl
+drop_none p s b (some t) q z = absurd (omega (arith, q.0))
 
-  pub drop_keeps : (o : Option Tag) → Pends p o → (p.tag / 65536 ≡ 2 → ⊥) → (drop_blanks s o b).word ≡ b.word
-  unfolding drop_blanks
-  drop_keeps none q n = refl
-  drop_keeps (some t) q n = word_normal s t t.mode b (λ e. n (ap (λ (z : ℕ). z / 65536) q.1 ∙ num_mode t q.2 ∙ e))
+drop_kept : (p : Blanks) (m : WhiteSpace) → TagMode p.tag m → (m ≡ PreWrap → ⊥) → (s : Setup) (b : Block) (o : Option Tag) → Pends p o → (drop_blanks s o b).word ≡ b.word
+unfolding drop_blanks
+drop_kept p m g n s b none q = refl
+drop_kept p m g n s b (some t) q = word_kept s t t.mode b (λ e. n (wrap_mode m (g t q.1 q.2 ∙ e)))
 
-  pub drop_trims : (o : Option Tag) → Pends p o → 0 < p.count → p.tag / 65536 ≡ 2 → (drop_blanks s o b).word ≡ trim_front b.word
-  unfolding drop_blanks
-  drop_trims none q h e = absurd (omega (arith, q))
-  drop_trims (some t) q h e = word_trimmed s t t.mode b (sym (num_mode t q.2) ∙ ap (λ (z : ℕ). z / 65536) (sym q.1) ∙ e)
+drop_trimmed : (p : Blanks) → (p.count ≡ 0 → ⊥) → ((t : Tag) → p.tag ≡ num t → t.ann < 256 → pre_wrap ≡ t.mode)
+    → (s : Setup) (b : Block) (o : Option Tag) → Pends p o → (drop_blanks s o b).word ≡ trim_front b.word
+unfolding drop_blanks
+drop_trimmed p n g s b none q = absurd (n q)
+drop_trimmed p n g s b (some t) q = word_trimmed s t t.mode b (g t q.1 q.2)
+
+module _ (p : Blanks) (items : List Item) where
+  -- There are no blanks.
+  pub starts_none : p.count ≡ 0 → StartsAt p items 0
+  starts_none z = λ s b q v e. e ∙ ap enc (sym (drop_none p s b b.spacetag q z))
+
+  -- They are not of mode PreWrap.
+  pub starts_kept : (m : WhiteSpace) → TagMode p.tag m → (m ≡ PreWrap → ⊥) → StartsAt p items 0
+  starts_kept m g n = λ s b q v e. e ∙ ap enc (sym (drop_kept p m g n s b b.spacetag q))
+
+  -- They are.
+  pub starts_trimmed : (p.count ≡ 0 → ⊥) → ((t : Tag) → p.tag ≡ num t → t.ann < 256 → pre_wrap ≡ t.mode) → (r : ℕ) → TrimsFront items r → StartsAt p items r
+  starts_trimmed n g r f = λ s b q v e. f b.word v e ∙ ap enc (sym (drop_trimmed p n g s b b.spacetag q))

@@ -1,133 +1,101 @@
 // `flush_word`.
-ghost use Rattle.std.specs.Prelude.{◌≡◌, true, false, ◌+◌, ◌-◌, ◌≤◌, length};
-ghost use Rattle.flush_word.specs.Keep.{CountsWithinUnits, BuffersLongEnough, PutsWord, StartsPre, StartsAt, Opened, OpensLine, StaysWithinUnits, WrapsWord, FlushesWord};
+ghost use Rattle.std.specs.Prelude.{◌≡◌, true, ◌+◌, ◌-◌, ◌≤◌, length};
+ghost use Rattle.flush_word.specs.Keep.{CountsWithinUnits, BuffersLongEnough, BlockStays, PutsWord, StartsPre, StartsAt, Opened, OpensLine, StaysWithinUnits, WrapsWord, FlushesWord};
 
-use crate::space::{drop_blanks, mode_of};
-use crate::state::{Blanks, NO_BLANKS, NO_WORD, State};
+use crate::state::{NO_BLANKS, WrappedBlock};
 use crate::trim::white_front;
+use crate::white_space::WhiteSpace;
 use hard_wrap::error::TooNarrow;
-use hard_wrap::flush::{flush_line, write_blanks};
-use hard_wrap::line::{Frame, Open};
-use hard_wrap::wrap::hard_wrap;
-use lines::buffer::{append, push_blanks};
 use lines::encode::MARK;
-
-// "Got enough space": the blanks and the word go on the line.
-fn put_word(frame: Frame, st: State, lb: &mut [u8], lt: &mut [u32], wb: &[u8], wt: &[u32]) -> State
-    requires counts_within_units { CountsWithinUnits frame st × BuffersLongEnough frame (length lb.old) (length lt.old) (length wb.now) (length wt.now) }
-    requires cols_bound { st.blanks.count + st.word.cols ≤ frame.width - st.line.cols }
-    ensures counts_within_units_2 { CountsWithinUnits frame result × (result.used ≡ st.used) }
-    ensures puts_word { PutsWord st lb.old lt.old wb.now wt.now result lb.new lt.new }
-{
-    let line = st.line;
-    let blanks = st.blanks;
-    let word = st.word;
-    let start = push_blanks(lb, lt, line.n, blanks.count, blanks.tag);
-    let n = append(lb, lt, start, wb, wt, word.n);
-    let open = Open {
-        n,
-        cols: line.cols + blanks.count + word.cols,
-        ..line
-    };
-    State {
-        line: open,
-        word: NO_WORD,
-        blanks: NO_BLANKS,
-        wrapped: false,
-        ..st
-    }
-}
+use lines::line::TaggedLine;
 
 // Whether a word's first text is of mode Pre.
-fn starts_pre(wt: &[u32]) -> bool
-    ensures { StartsPre wt.now result }
+fn starts_pre(word: &TaggedLine<'_>) -> bool
+    ensures { StartsPre word.now.items result }
 {
-    match wt.iter().find(|tag| **tag < MARK) {
-        Some(tag) => mode_of(*tag) == 1,
+    match word.tags().iter().find(|tag| **tag < MARK) {
+        Some(tag) => WhiteSpace::of_tag(*tag) == WhiteSpace::Pre,
         None => false,
     }
 }
 
-// Where the word starts once PreWrap has trimmed its front.
-fn word_start(blanks: Blanks, wb: &[u8], wt: &[u32]) -> usize
-    requires { length wb.now ≡ length wt.now }
-    ensures upper_bound { result ≤ length wt.now }
-    ensures starts_at { StartsAt blanks wb.now wt.now result }
-{
-    if blanks.count == 0 {
-        return 0;
+impl WrappedBlock<'_> {
+    // "Got enough space": the blanks and the word go on the line.
+    fn put_word(&mut self)
+        requires counts_within_units { CountsWithinUnits self.old × BuffersLongEnough self.old }
+        requires cols_bound { self.old.blanks.count + self.old.word.cols ≤ self.old.line.frame.width - self.old.line.cols }
+        ensures stays { BlockStays self.old self.new }
+        ensures counts_within_units_2 { CountsWithinUnits self.new × (self.new.used ≡ self.old.used) }
+        ensures puts_word { PutsWord self.old self.new }
+    {
+        self.line
+            .entries
+            .push_ws(self.blanks.count, self.blanks.tag);
+        self.line.entries.consume(&self.word.entries);
+        self.line.cols += self.blanks.count + self.word.cols;
+        self.word.clear();
+        self.blanks = NO_BLANKS;
+        self.wrapped = false;
     }
-    if mode_of(blanks.tag) == 2 {
-        return white_front(wb, wt);
-    }
-    0
-}
 
-// A new line, and the blanks that are carried on.
-fn next_line(frame: Frame, st: State, lb: &mut [u8], lt: &mut [u32], out: &mut [u8]) -> Open
-    requires { CountsWithinUnits frame st × BuffersLongEnough frame (length lb.old) (length lt.old) 4096 4096 }
-    ensures opened { Opened frame st result }
-    ensures opens_line { OpensLine frame st lb.old lt.old out.old result lb.new lt.new out.new }
-{
-    let kept = drop_blanks(frame, st, lb, lt);
-    let line = flush_line(frame, kept.line, lb, lt, out);
-    let blanks = kept.blanks;
-    write_blanks(frame, line, lb, lt, blanks.count, blanks.tag, out)
-}
-
-// "Not enough space": a new line, and the word hard-wrapped.
-fn wrap_word(
-    frame: Frame,
-    st: State,
-    lb: &mut [u8],
-    lt: &mut [u32],
-    wb: &[u8],
-    wt: &[u32],
-    out: &mut [u8],
-) -> Result<State, TooNarrow>
-    requires counts_within_units { CountsWithinUnits frame st × BuffersLongEnough frame (length lb.old) (length lt.old) (length wb.now) (length wt.now) }
-    requires text_value { st.word.text ≡ true }
-    ensures stays_within_units { StaysWithinUnits frame st.used result }
-    ensures wraps_word { WrapsWord frame st lb.old lt.old wb.now wt.now out.old result lb.new lt.new out.new }
-{
-    let word = st.word;
-    let blanks = st.blanks;
-    let n = word.n;
-    let pre = starts_pre(&wt[..n]);
-    let start = word_start(blanks, &wb[..n], &wt[..n]);
-    let line = next_line(frame, st, lb, lt, out);
-    let last = hard_wrap(frame, line, lb, lt, &wb[start..n], &wt[start..n], out)?;
-    Ok(State {
-        line: last,
-        word: NO_WORD,
-        blanks: NO_BLANKS,
-        wrapped: pre,
-        ..st
-    })
-}
-
-// `flush_word`: nothing while the word has no text.
-pub fn flush_word(
-    frame: Frame,
-    st: State,
-    lb: &mut [u8],
-    lt: &mut [u32],
-    wb: &[u8],
-    wt: &[u32],
-    out: &mut [u8],
-) -> Result<State, TooNarrow>
-    requires { CountsWithinUnits frame st × BuffersLongEnough frame (length lb.old) (length lt.old) (length wb.now) (length wt.now) }
-    ensures stays_within_units { StaysWithinUnits frame st.used result }
-    ensures flushes_word { FlushesWord frame st lb.old lt.old wb.now wt.now out.old result lb.new lt.new out.new }
-{
-    let line = st.line;
-    let word = st.word;
-    let blanks = st.blanks;
-    if !word.text {
-        return Ok(st);
+    // Where the word starts once PreWrap has trimmed its front.
+    fn word_start(&self) -> usize
+        ensures upper_bound { result ≤ length self.now.word.entries.items }
+        ensures starts_at { StartsAt self.now.blanks self.now.word.entries.items result }
+    {
+        if self.blanks.count == 0 {
+            return 0;
+        }
+        match WhiteSpace::of_tag(self.blanks.tag) {
+            WhiteSpace::PreWrap => white_front(&self.word.entries),
+            _ => 0,
+        }
     }
-    if blanks.count + word.cols <= frame.width - line.cols {
-        return Ok(put_word(frame, st, lb, lt, wb, wt));
+
+    // A new line, and the blanks that are carried on.
+    fn next_line(&mut self)
+        requires { CountsWithinUnits self.old × BuffersLongEnough self.old }
+        ensures stays { BlockStays self.old self.new }
+        ensures opened { Opened self.old self.new }
+        ensures opens_line { OpensLine self.old self.new }
+    {
+        self.drop_blanks();
+        self.line.flush_line();
+        self.line.write_blanks(self.blanks.count, self.blanks.tag);
     }
-    wrap_word(frame, st, lb, lt, wb, wt, out)
+
+    // "Not enough space": a new line, and the word hard-wrapped.
+    fn wrap_word(&mut self) -> Result<(), TooNarrow>
+        requires counts_within_units { CountsWithinUnits self.old × BuffersLongEnough self.old }
+        requires text_value { self.old.word.has_text ≡ true }
+        ensures stays { BlockStays self.old self.new }
+        ensures stays_within_units { StaysWithinUnits self.old.used result self.new }
+        ensures wraps_word { WrapsWord self.old result self.new }
+    {
+        let pre = starts_pre(&self.word.entries);
+        let start = self.word_start();
+        self.next_line();
+        self.line.hard_wrap(&self.word.entries, start)?;
+        self.word.clear();
+        self.blanks = NO_BLANKS;
+        self.wrapped = pre;
+        Ok(())
+    }
+
+    // `flush_word`: nothing while the word has no text.
+    pub fn flush_word(&mut self) -> Result<(), TooNarrow>
+        requires { CountsWithinUnits self.old × BuffersLongEnough self.old }
+        ensures stays { BlockStays self.old self.new }
+        ensures stays_within_units { StaysWithinUnits self.old.used result self.new }
+        ensures flushes_word { FlushesWord self.old result self.new }
+    {
+        if !self.word.has_text {
+            return Ok(());
+        }
+        if self.blanks.count + self.word.cols <= self.line.frame.width - self.line.cols {
+            self.put_word();
+            return Ok(());
+        }
+        self.wrap_word()
+    }
 }

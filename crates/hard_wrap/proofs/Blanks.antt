@@ -1,11 +1,12 @@
--- The laws of the steps at the line's end: a scan for text, a line that is closed where it has text, and blanks.
+-- The laws of the steps at the line's end: a line that is closed where it has text, and blanks.
 -- Assumes nothing.
-use mathlib.Core.Path.{◌≡◌, refl, sym, ap, ◌∙◌, subst}
+use mathlib.Core.Path.{◌≡◌, refl, sym, ap, ◌∙◌}
 use mathlib.Core.Logic.{inl}
 use mathlib.Core.Bool.{Bool, true, false}
 use mathlib.Core.Option.{some}
 use mathlib.Core.List.{List, [], ◌∷◌, ◌++◌}
-use Prim.Native.Nat.{ℕ, zero, suc, ◌+◌, ◌-◌, ◌*◌, ◌<◌, ◌≤◌}
+use Prim.Native.Nat.{ℕ, zero, suc, ◌+◌, ◌<◌, ◌≤◌}
+use native.Mathlib.Numerals.{add-one}
 use native.Mathlib.Omega.{arith}
 use borrow.Author.Tests.{le-leb, lt-leb}
 use lib.ListN.{length}
@@ -14,58 +15,45 @@ use Rattle.characters.specs.Utf8.{utf8, text_bytes}
 use Rattle.fields.specs.declared.job.Setup.{Setup}
 use Rattle.block.specs.Tag.{Tag}
 use Rattle.block.specs.Flat.{Line, char, name, Block, has_text, columns, flat_push_char, on_line, flat_flush_line, flat_force_flush_line, write_blank, write_blanks}
-use Rattle.lines.specs.Items.{Item, item, items}
+use Rattle.lines.specs.Items.{Item, item, Entries}
 use Rattle.lines.specs.Bridge.{num, tagged, enc}
-use Rattle.lines.proofs.Buffers.{items_none, items_length}
 use Rattle.lines.proofs.Encoded.{enc_none}
-use Rattle.hard_wrap.specs.Hold.{setup, Holds}
-use Rattle.hard_wrap.specs.declared.line.Frame.{Frame}
-use Rattle.hard_wrap.specs.declared.line.Open.{Open}
+use Rattle.hard_wrap.specs.Hold.{setup, Holds, ForceFlushes}
+use Rattle.hard_wrap.specs.Steps.{Writes}
+use Rattle.hard_wrap.specs.declared.line.OpenLine.{OpenLine}
 use Rattle.hard_wrap.proofs.Closing.{puts}
 
 -- ---- a line that is closed where it has text
 
--- no entries, no line
-pub line_empty : (st : Open) (d₀ : List ℕ) (base : ℕ) (lb lt out : List ℕ) (b : Block) → Holds d₀ base b st lb lt out → st.n ≡ 0 → b.line ≡ []
-line_empty st d₀ base lb lt out b o e =
-    enc_none b.line (sym o.line ∙ ap (items lb lt) e ∙ items_none lb lt)
+no_items : (l : List Item) → length l ≡ 0 → l ≡ []
+no_items [] e = refl
+no_items (x ∷ l) e = absurd (omega (arith, e))
 
--- entries, so a line
-pub line_some : (st : Open) (d₀ : List ℕ) (base : ℕ) (lb lt out : List ℕ) (b : Block) → Holds d₀ base b st lb lt out
-    → st.n ≤ length lb → st.n ≤ length lt → (st.n ≡ 0 → ⊥) → (has_text b.line ≡ false → b.line ≡ []) → has_text b.line ≡ true
+-- Nothing stands on the line, and nothing is closed.
+pub flushes_none : (o : OpenLine) (d₀ : List ℕ) (base : ℕ) (b : Block) → Holds d₀ base b o → length o.entries.items ≡ 0
+    → Holds d₀ base (flat_flush_line (setup o.frame) b) (record { frame = o.frame; entries = o.entries; cols = 0; text = o.text })
+unfolding flat_flush_line has_text columns
+flushes_none o d₀ base b g e =
+    let l : b.line ≡ [] = enc_none b.line (sym g.line ∙ no_items o.entries.items e) in
+    let n : flat_flush_line (setup o.frame) b ≡ b = rw l in
+    rw n (record { line = g.line; valid = g.valid; cols = rw l; store = g.store; place = g.place; lines = g.lines })
+
+-- A line with text is closed.
+flushes_text : (s : Setup) (b : Block) → has_text b.line ≡ true → flat_flush_line s b ≡ flat_force_flush_line s b
+unfolding flat_flush_line
+flushes_text s b e = rw e
+
+-- A line with entries has text.
+pub flushes_some : (o r : OpenLine) (d₀ : List ℕ) (base : ℕ) (b : Block) → Holds d₀ base b o → (length o.entries.items ≡ 0 → ⊥) → (has_text b.line ≡ false → b.line ≡ [])
+    → ForceFlushes o r → Holds d₀ base (flat_flush_line (setup o.frame) b) r
 unfolding enc
-line_some st d₀ base lb lt out b o h k z g = go (has_text b.line) refl
+flushes_some o r d₀ base b g z h x = rw (flushes_text (setup o.frame) b (go (has_text b.line) refl)) (x d₀ base b g)
   where
     go : (e : Bool) → has_text b.line ≡ e → e ≡ true
     go true e = refl
-    go false e =
-        let n : length (items lb lt st.n) ≡ 0 = ap length (o.line ∙ ap enc (g e)) in
-        absurd (z (sym (items_length lb lt st.n h k) ∙ n))
+    go false e = absurd (z (ap length (g.line ∙ ap enc (h e))))
 
--- nothing is closed, and nothing is on the line
-pub nothing_closed : (st : Open) (d₀ : List ℕ) (base : ℕ) (lb lt out : List ℕ) (b : Block) → Holds d₀ base b st lb lt out → st.n ≡ 0
-    → Holds d₀ base b (record { n = 0; cols = 0; place = st.place; lines = st.lines }) lb lt out
-unfolding columns enc
-nothing_closed st d₀ base lb lt out b o e =
-    let l = line_empty st d₀ base lb lt out b o e in
-    record {
-      line = items_none lb lt ∙ rw l;
-      valid = o.valid;
-      cols = rw l;
-      store = o.store;
-      place = o.place;
-      lines = o.lines;
-    }
-
--- A line with text is closed.
-pub flushes : (s : Setup) (b : Block) → has_text b.line ≡ true → flat_flush_line s b ≡ flat_force_flush_line s b
-unfolding flat_flush_line
-flushes s b e = rw e
-
--- nothing stands on the line
-pub flushes_empty : (s : Setup) (b : Block) → b.line ≡ [] → flat_flush_line s b ≡ b
-unfolding flat_flush_line has_text
-flushes_empty s b e = rw e
+-- ---- blanks
 
 text_snoc : (l : Line) (c : ℕ) (t : Tag) → has_text (l ++ (char c t ∷ [])) ≡ true
 unfolding has_text
@@ -85,58 +73,51 @@ tagged_one : (b t : ℕ) → item b t ∷ [] ≡ tagged t (b ∷ [])
 unfolding tagged
 tagged_one b t = refl
 
-module _ (frame : Frame) (st r : Open) (d₀ : List ℕ) (base : ℕ) (lb lt lb' lt' out : List ℕ) (tag : ℕ) (b : Block) (t : Tag) (o : Holds d₀ base b st lb lt out) (ta : tag ≡ num t) (ann : t.ann < 256)
-    (e : items lb' lt' r.n ≡ items lb lt st.n ++ (item 0x20 tag ∷ [])) (f : r.cols ≡ st.cols + 1) (g : r.place ≡ st.place) (m : r.lines ≡ st.lines) where
+module _ (o : OpenLine) (e : Entries) (tag : ℕ) (i : e.items ≡ o.entries.items ++ (item 0x20 tag ∷ [])) where
   -- the blank is on the line
-  pub blank_on : Holds d₀ base (on_line 0x20 t b) r lb' lt' out
-  unfolding flat_push_char
-  blank_on =
-      puts st r d₀ base lb lt lb' lt' out (32 ∷ []) tag 1 b t (0x20 ∷ []) (e ∙ ap (λ (l : List Item). items lb lt st.n ++ l) (tagged_one 32 tag)) f g m o ta ann
-      ((inl (omega arith), omega arith), tt) blank_bytes blank_width
+  abbrev Next : OpenLine
+  Next = record { frame = o.frame; entries = e; cols = o.cols + 1; text = o.text }
 
-  -- The line is full.
-  pub blank_full : frame.width ≤ r.cols → flat_force_flush_line (setup frame) (on_line 0x20 t b) ≡ write_blanks (setup frame) 1 (some t) b
-  unfolding write_blanks write_blank flat_push_char
-  blank_full h =
-      let c = blank_on.cols in
-      sym (rw (le-leb frame.width (columns (on_line 0x20 t b).line) (omega arith)) (flushes (setup frame) (on_line 0x20 t b) (text_snoc b.line 0x20 t)))
+  module _ (d₀ : List ℕ) (base : ℕ) (b : Block) (t : Tag) (g : Holds d₀ base b o) (ta : tag ≡ num t) (ann : t.ann < 256) where
+    pub blank_on : Holds d₀ base (on_line 0x20 t b) Next
+    unfolding flat_push_char
+    blank_on =
+        puts o e d₀ (32 ∷ []) base tag 1 b t (0x20 ∷ []) (i ∙ ap (λ (l : List Item). o.entries.items ++ l) (tagged_one 32 tag)) g ta ann
+        ((inl (omega arith), omega arith), tt) blank_bytes blank_width
+
+    full_is : o.frame.width ≤ o.cols + 1 → flat_force_flush_line (setup o.frame) (on_line 0x20 t b) ≡ write_blanks (setup o.frame) 1 (some t) b
+    unfolding write_blanks write_blank flat_push_char
+    full_is h =
+        let c = blank_on.cols in
+        sym (rw (le-leb o.frame.width (columns (on_line 0x20 t b).line) (omega arith)) (flushes_text (setup o.frame) (on_line 0x20 t b) (text_snoc b.line 0x20 t)))
+
+    open_is : o.cols + 1 < o.frame.width → on_line 0x20 t b ≡ write_blanks (setup o.frame) 1 (some t) b
+    unfolding write_blanks write_blank
+    open_is h =
+        let c = blank_on.cols in
+        sym (rw (lt-leb o.frame.width (columns (on_line 0x20 t b).line) (omega arith)))
+
+  -- The line is full, and is closed.
+  pub blank_full : (r : OpenLine) → o.frame.width ≤ o.cols + 1 → ForceFlushes Next r → Writes o 1 tag r
+  blank_full r h x = λ d₀ base b t g ta ann. rw (← full_is d₀ base b t g ta ann h) (x d₀ base (on_line 0x20 t b) (blank_on d₀ base b t g ta ann))
 
   -- The line has columns left.
-  pub blank_open : r.cols < frame.width → on_line 0x20 t b ≡ write_blanks (setup frame) 1 (some t) b
-  unfolding write_blanks write_blank
-  blank_open h =
-      let c = blank_on.cols in
-      sym (rw (lt-leb frame.width (columns (on_line 0x20 t b).line) (omega arith)))
+  pub blank_open : o.cols + 1 < o.frame.width → Writes o 1 tag Next
+  blank_open h = λ d₀ base b t g ta ann. rw (← open_is d₀ base b t g ta ann h) (blank_on d₀ base b t g ta ann)
 
--- one more of them
-pub blanks_turn : (s : Setup) (count i : ℕ) (t : Tag) (b : Block) → i < count → write_blanks s (count - i) (some t) b ≡ write_blanks s (count - (i + 1)) (some t) (write_blanks s 1 (some t) b)
+blanks_more : (s : Setup) (i : ℕ) (t : Tag) (b : Block) → write_blanks s (suc i) (some t) b ≡ write_blanks s 1 (some t) (write_blanks s i (some t) b)
 unfolding write_blanks
-blanks_turn s count i t b h = let e : count - i ≡ suc (count - (i + 1)) = omega arith in rw e
+blanks_more s zero t b = refl
+blanks_more s (suc i) t b = blanks_more s i t (write_blank s t b)
 
--- No blanks are left.
-pub blanks_none : (s : Setup) (n : ℕ) (t : Tag) (b : Block) → n ≤ 0 → write_blanks s n (some t) b ≡ b
+-- No blank yet.
+pub writes_none : (o : OpenLine) (tag : ℕ) → Writes o 0 tag o
 unfolding write_blanks
-blanks_none s zero t b h = refl
-blanks_none s (suc n) t b h = absurd (omega arith)
+writes_none o tag = λ d₀ base b t g ta ann. g
 
--- the blanks that are left
-pub record BlanksLeft (s : Setup) (d₀ : List ℕ) (base : ℕ) (b : Block) (t : Tag) (count left : ℕ) (cur : Open) (lb lt out : List ℕ) : Type 0 where
-  pub next : Block
-  pub holds : Holds d₀ base next cur lb lt out
-  pub same : write_blanks s count (some t) b ≡ write_blanks s left (some t) next
-
--- the same of an equal block
-pub holds_same : {d₀ : List ℕ} {base : ℕ} {x y : Block} {st : Open} {lb lt out : List ℕ} → x ≡ y → Holds d₀ base x st lb lt out → Holds d₀ base y st lb lt out
-holds_same {d₀} {base} {x} {y} {st} {lb} {lt} {out} e o = subst (λ (z : Block). Holds d₀ base z st lb lt out) e o
-
--- The invariant of the loop that writes blanks: the numbers, and that those left make the whole.
-pub record Blanking (frame : Frame) (lb₀ lt₀ : List ℕ) (count tag : ℕ) (out₀ : List ℕ) (st : Open) (lb lt out : List ℕ) (cur : Open) (i : ℕ) : Type 0 where
-  pub cols : cur.cols ≤ frame.width
-  pub bytes : length lb ≡ length lb₀
-  pub tags : length lt ≡ length lt₀
-  pub store : length out ≡ length out₀
-  pub n : cur.n ≤ st.n + i
-  pub place : cur.place ≤ st.place + 65538 * i
-  pub lines : cur.lines ≤ cur.place
-  pub going : (d₀ : List ℕ) (base : ℕ) (b : Block) (t : Tag) → Holds d₀ base b st lb₀ lt₀ out₀ → tag ≡ num t → t.ann < 256
-      → BlanksLeft (setup frame) d₀ base b t count (count - i) cur lb lt out
+-- One blank more.
+pub writes_more : (o p r : OpenLine) (i tag : ℕ) → p.frame ≡ o.frame → Writes o i tag p → Writes p 1 tag r → Writes o (i + 1) tag r
+writes_more o p r i tag f x y =
+    λ d₀ base b t g ta ann.
+    let z : Holds d₀ base (write_blanks (setup p.frame) 1 (some t) (write_blanks (setup o.frame) i (some t) b)) r = y d₀ base (write_blanks (setup o.frame) i (some t) b) t (x d₀ base b t g ta ann) ta ann in
+    rw (add-one i, blanks_more (setup o.frame) i t b) (rw f at z)

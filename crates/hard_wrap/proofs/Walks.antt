@@ -20,16 +20,6 @@ use Rattle.fields.proofs.Texts.{rest}
 pub part_len : (s : List ℕ) (at : ℕ) → length (take (length s - at) (drop at s)) ≡ length s - at
 part_len s at = ap length (rest s at) ∙ length-drop at s
 
--- A run of plain characters stays inside the text, and within the columns that are left.
-pub run_fits : (text : List ℕ) (left at used len cols : ℕ) → at ≤ length text → used ≤ left → left < 256 → (len ≤ length (take (length text - at) (drop at text))) × (cols ≤ left - used)
-    → (at + len ≤ length text) × (used + cols ≤ left) × (used + cols < 256)
-run_fits text left at used len cols h k w r = omega (arith, part_len text at, h, k, w, r)
-
--- The character after it stays inside the text.
-pub glyph_fits : (text : List ℕ) (at len cols : ℕ) → at ≤ length text → (0 < len) × (len ≤ length (take (length text - at) (drop at text))) × (cols ≤ 2)
-    → (0 < len) × (cols < 256) × (at + len ≤ length text)
-glyph_fits text at len cols h g = omega (arith, part_len text at, h, g)
-
 -- A text of no bytes has no characters.
 pub text_none : (cs : List ℕ) → length (text_bytes cs) ≤ 0 → cs ≡ []
 unfolding text_bytes
@@ -112,6 +102,52 @@ module _ (part cs : List ℕ) where
       let w : cs ≡ o.p ++ [] = o.whole ∙ ap (λ (x : List ℕ). o.p ++ x) e in
       (record { p = o.p; q = []; whole = w; place = o.at; cols = o.cols; stop = tt }, o.cols ∙ ap str_width (sym (append-nil o.p) ∙ sym w))
 
--- The same place, by another name.
-pub split_same : {left at at' used : ℕ} {cs : List ℕ} → at ≡ at' → Split left cs at' used → Split left cs at used
-split_same e s = rw e s
+-- ---- the walk over what is left of a piece
+
+-- what is left of a text, as a part of it
+abbrev pub part : List ℕ → ℕ → List ℕ
+part s at = take (length s - at) (drop at s)
+
+-- The walk's invariant: the characters passed fit the columns that are left.
+pub record Walk (text : List ℕ) (left idx used : ℕ) : Type 0 where
+  pub inside : idx ≤ length text
+  pub fits : used ≤ left
+  pub going : (cs : List ℕ) → Scalars cs → text ≡ text_bytes cs → Going text cs idx used
+
+-- the place where the walk stopped
+abbrev pub Stopped : List ℕ → ℕ → ℕ → ℕ → Type 0
+Stopped text left idx used = (cs : List ℕ) → Scalars cs → text ≡ text_bytes cs → Split left cs idx used
+
+-- No character is passed.
+pub walk_start : (text : List ℕ) (left : ℕ) → Walk text left 0 0
+walk_start text left = record { inside = omega arith; fits = omega arith; going = λ cs v e. going_start text cs e }
+
+module _ (text : List ℕ) (left idx used : ℕ) (w : Walk text left idx used) where
+  -- A run of plain characters is passed.
+  pub walk_run : (len k : ℕ) → (len ≤ length (part text idx)) × (k ≤ left - used) → PlainRun true (part text idx) len k → Walk text left (idx + len) (used + k)
+  walk_run len k h run =
+      let pl = part_len text idx in
+      record {
+        inside = omega (arith, w, h, pl);
+        fits = omega (arith, w, h);
+        going = λ cs v e. going_run text cs idx used len k v run (w.going cs v e);
+      }
+
+  -- All of the text is passed.
+  pub walk_end : length text ≤ idx → Stopped text left idx used
+  walk_end h = λ cs v e. (going_end text cs idx used left h (w.going cs v e)).0
+
+  module _ (len k : ℕ) (h : idx < length text) (g : Shows (part text idx) len k) where
+    -- A character is passed.
+    pub walk_char : len ≤ length (part text idx) → k ≤ left - used → Walk text left (idx + len) (used + k)
+    walk_char l m =
+        let pl = part_len text idx in
+        record {
+          inside = omega (arith, w, l, pl);
+          fits = omega (arith, w, m);
+          going = λ cs v e. going_on text cs idx used len k v h g (w.going cs v e);
+        }
+
+    -- A character does not fit.
+    pub walk_stop : left - used < k → Stopped text left idx used
+    walk_stop l = λ cs v e. going_stop text cs idx used len k v h g left l (w.going cs v e)

@@ -1,72 +1,51 @@
 // A line with text is closed (`flush_line`), and pending blanks are written, a space at a time ("Write any
 // remaining whitespace" in `flush_word`).
-ghost use Rattle.std.specs.Prelude.{◌≤◌, length};
-ghost use Rattle.hard_wrap.specs.Hold.{Room};
+ghost use Rattle.std.specs.Prelude.{◌≤◌};
+ghost use Rattle.hard_wrap.specs.Hold.{Stays, Room};
 ghost use Rattle.hard_wrap.specs.Steps.{LineFlushed, Flushes, Blanked, Writes};
 
-use crate::line::{Frame, Open, force_flush_line};
-use lines::buffer::push_byte;
+use crate::line::OpenLine;
 
-// A line with text is closed (`flush_line`). A line with entries has text, so their number decides.
-pub fn flush_line(frame: Frame, st: Open, lb: &mut [u8], lt: &mut [u32], out: &mut [u8]) -> Open
-    requires { Room frame st 0 1 (length lb.old) (length lt.old) }
-    ensures line_flushed { LineFlushed st result }
-    ensures flushes { Flushes frame st lb.old lt.old out.old result lb.new lt.new out.new }
-{
-    if st.n == 0 {
-        return Open {
-            n: 0,
-            cols: 0,
-            ..st
-        };
+impl OpenLine<'_> {
+    // A line with text is closed (`flush_line`). A line with entries has text, so their number decides.
+    pub fn flush_line(&mut self)
+        requires { Room self.old 0 1 }
+        ensures stays { Stays self.old self.new }
+        ensures line_flushed { LineFlushed self.old self.new }
+        ensures flushes { Flushes self.old self.new }
+    {
+        if self.entries.is_empty() {
+            self.cols = 0;
+            return;
+        }
+        self.force_flush_line();
     }
-    force_flush_line(frame, st, lb, lt, out)
-}
 
-// One blank more, and the line is closed where it is full.
-fn write_blank(
-    frame: Frame,
-    st: Open,
-    lb: &mut [u8],
-    lt: &mut [u32],
-    tag: u32,
-    out: &mut [u8],
-) -> Open
-    requires room { Room frame st 1 1 (length lb.old) (length lt.old) }
-    requires cols_le_width { st.cols ≤ frame.width }
-    ensures blanked { Blanked frame st 1 result }
-    ensures writes { Writes frame st 1 tag lb.old lt.old out.old result lb.new lt.new out.new }
-{
-    let n = push_byte(lb, lt, st.n, 32, tag);
-    let next = Open {
-        n,
-        cols: st.cols + 1,
-        ..st
-    };
-    if frame.width <= next.cols {
-        return force_flush_line(frame, next, lb, lt, out);
+    // One blank more, and the line is closed where it is full.
+    fn write_blank(&mut self, tag: u32)
+        requires room { Room self.old 1 1 }
+        requires cols_le_width { self.old.cols ≤ self.old.frame.width }
+        ensures stays { Stays self.old self.new }
+        ensures blanked { Blanked self.old 1 self.new }
+        ensures writes { Writes self.old 1 tag self.new }
+    {
+        self.entries.push(32, tag);
+        self.cols += 1;
+        if self.frame.width <= self.cols {
+            self.force_flush_line();
+        }
     }
-    next
-}
 
-// The pending blanks.
-pub fn write_blanks(
-    frame: Frame,
-    st: Open,
-    lb: &mut [u8],
-    lt: &mut [u32],
-    count: usize,
-    tag: u32,
-    out: &mut [u8],
-) -> Open
-    requires room { Room frame st count count (length lb.old) (length lt.old) }
-    requires cols_le_width { st.cols ≤ frame.width }
-    ensures blanked { Blanked frame st count result }
-    ensures writes { Writes frame st count tag lb.old lt.old out.old result lb.new lt.new out.new }
-{
-    let mut cur = st;
-    for _written in 0..count {
-        cur = write_blank(frame, cur, lb, lt, tag, out);
+    // The pending blanks.
+    pub fn write_blanks(&mut self, count: usize, tag: u32)
+        requires room { Room self.old count count }
+        requires cols_le_width { self.old.cols ≤ self.old.frame.width }
+        ensures stays { Stays self.old self.new }
+        ensures blanked { Blanked self.old count self.new }
+        ensures writes { Writes self.old count tag self.new }
+    {
+        for _written in 0..count {
+            self.write_blank(tag);
+        }
     }
-    cur
 }

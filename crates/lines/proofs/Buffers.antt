@@ -5,7 +5,7 @@ use mathlib.Core.List.{List, [], ◌∷◌, ◌++◌, map}
 use Prim.Native.Nat.{ℕ, zero, suc, ◌+◌, ◌-◌, ◌≤◌, ◌<◌}
 use native.Mathlib.Numerals.{add-one}
 use native.Mathlib.Omega.{arith}
-use lib.ListN.{length, take, drop, get_or, set, length-take, length-drop, replicate}
+use lib.ListN.{length, take, drop, get_or, set, length-take, length-drop, replicate, length-set}
 use lib.Seq.{take-suc, take-suc-set, length-take-le}
 use Rattle.std.proofs.lemmas.Slice.{take-put_mid}
 use borrow.Rule.Slice.PartMut.{put_mid}
@@ -63,10 +63,50 @@ pub items_length : (bs ts : List ℕ) (n : ℕ) → n ≤ length bs → n ≤ le
 unfolding items
 items_length bs ts n h k = length_zip (take n bs) (take n ts) (length-take-le n bs h ∙ sym (length-take-le n ts k)) ∙ length-take-le n bs h
 
+-- The bytes of the first n items.
+pub items_bytes : (bs ts : List ℕ) (n : ℕ) → n ≤ length bs → n ≤ length ts → take n bs ≡ map byte_of (items bs ts n)
+unfolding items
+items_bytes bs ts n h k = sym (zip_bytes (take n bs) (take n ts) (length-take-le n bs h ∙ sym (length-take-le n ts k)))
+
+-- The tags of the first n items.
+pub items_tags : (bs ts : List ℕ) (n : ℕ) → n ≤ length bs → n ≤ length ts → take n ts ≡ map tag_of (items bs ts n)
+unfolding items
+items_tags bs ts n h k = sym (zip_tags (take n bs) (take n ts) (length-take-le n bs h ∙ sym (length-take-le n ts k)))
+
+-- The bytes and the tags of items make the items.
+pub zip_maps : (l : List Item) → zip (map byte_of l) (map tag_of l) ≡ l
+zip_maps [] = refl
+zip_maps (x ∷ l) = ap (λ (m : List Item). x ∷ m) (zip_maps l)
+
+-- So do lists that are those bytes and those tags.
+pub zip_copies : (l : List Item) (bs ts : List ℕ) → bs ≡ map byte_of l → ts ≡ map tag_of l → zip bs ts ≡ l
+zip_copies l bs ts e f = rw (e, f) (zip_maps l)
+
+zip_take : (n : ℕ) (bs ts : List ℕ) → zip (take n bs) (take n ts) ≡ take n (zip bs ts)
+zip_take zero bs ts = refl
+zip_take (suc n) [] ts = refl
+zip_take (suc n) (b ∷ bs) [] = refl
+zip_take (suc n) (b ∷ bs) (t ∷ ts) = ap (λ (l : List Item). item b t ∷ l) (zip_take n bs ts)
+
+take_less : (m n : ℕ) (l : List Item) → m ≤ n → take m l ≡ take m (take n l)
+take_less zero n l h = refl
+take_less (suc m) zero l h = absurd (omega (arith, h))
+take_less (suc m) (suc n) [] h = refl
+take_less (suc m) (suc n) (x ∷ l) h = ap (λ (k : List Item). x ∷ k) (take_less m n l (omega (arith, h)))
+
+-- The first m of the first n items.
+pub items_take : (bs ts : List ℕ) (n m : ℕ) → m ≤ n → items bs ts m ≡ take m (items bs ts n)
+unfolding items
+items_take bs ts n m h = rw (zip_take m bs ts, zip_take n bs ts) (take_less m n (zip bs ts) h)
+
 -- a store at n of both buffers is one more item
 pub items_push : (bs ts : List ℕ) (n b t : ℕ) → n < length bs → n < length ts → items (set bs n b) (set ts n t) (n + 1) ≡ items bs ts n ++ (item b t ∷ [])
 unfolding items
 items_push bs ts n b t h k = let e : length (take n bs) ≡ length (take n ts) = simp length-take (omega arith) in rw (add-one, take-suc-set bs, take-suc-set ts, zip_append)
+
+-- One more entry.
+pub push_length : (bs ts : List ℕ) (n b t : ℕ) → n < length bs → n < length ts → length (items (set bs n b) (set ts n t) (n + 1)) ≡ n + 1
+push_length bs ts n b t h k = items_length (set bs n b) (set ts n t) (n + 1) (simp length-set (omega arith)) (simp length-set (omega arith))
 
 -- one more item of buffers that stay
 pub items_more : (bs ts : List ℕ) (n : ℕ) → n < length bs → n < length ts → items bs ts (n + 1) ≡ items bs ts n ++ (item (get_or bs n 0) (get_or ts n 0) ∷ [])
@@ -88,11 +128,6 @@ unfolding items
 items_put bs ts xs us n m k l h g p q r =
     let e : length (take n bs) ≡ length (take n ts) = simp length-take (omega arith) in
     rw (← r, take-put_mid n k bs xs (n + m) (omega arith) h, take-put_mid n k ts us (n + m) (omega arith) g, zip_append (take n bs) (take n ts) xs us e)
-
--- The first m entries of another pair.
-pub items_of_copies : (more tags xs us : List ℕ) (m : ℕ) → xs ≡ take m more → us ≡ take m tags → zip xs us ≡ items more tags m
-unfolding items
-items_of_copies more tags xs us m e f = rw (e, f)
 
 -- A part of m entries from n on has m of them.
 pub part_length : (xs : List ℕ) (n m : ℕ) → n + m ≤ length xs → length (take (n + m - n) (drop n xs)) ≡ m

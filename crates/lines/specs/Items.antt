@@ -32,3 +32,8 @@ mark_tag = 1048576
 
 abbrev pub name_tag : ℕ
 name_tag = 1114112
+
+-- what a line holds, and how many entries its buffers have room for
+pub record Entries : Type 0 where
+  pub items : List Item
+  pub room : ℕ

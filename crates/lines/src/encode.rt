@@ -4,7 +4,7 @@
 // the line is closed.
 ghost use Rattle.std.specs.Prelude.{◌≡◌, ◌+◌, ◌*◌, ◌^◌, ◌≤◌, ◌<◌, length, drop, get_or};
 ghost use Rattle.fields.specs.Store.{Wrote};
-ghost use Rattle.lines.specs.Items.{zip, items};
+ghost use Rattle.lines.specs.Items.{zip};
 ghost use Rattle.lines.specs.Encode.{same_t, run_t, field_of, content, line_field};
 
 use fields::store::{put_byte, put_bytes, put_field, put_head};
@@ -73,7 +73,7 @@ pub fn put_pieces(out: &mut [u8], at: usize, bytes: &[u8], tags: &[u32]) -> usiz
 }
 
 // A whole line: first what it holds, and then its head in front of it.
-fn put_line(out: &mut [u8], at: usize, bytes: &[u8], tags: &[u32]) -> usize
+pub fn put_line(out: &mut [u8], at: usize, bytes: &[u8], tags: &[u32]) -> usize
     requires { (length bytes.now ≡ length tags.now) × (length bytes.now < 13107) × (at + 5 * length bytes.now + 3 < 2 ^ 62) }
     ensures lower_bound { (at + 3 ≤ result) × (result ≤ at + 3 + 5 * length bytes.now) }
     ensures wrote { Wrote out.old at (line_field (zip bytes.now tags.now)) out.new result }
@@ -82,13 +82,4 @@ fn put_line(out: &mut [u8], at: usize, bytes: &[u8], tags: &[u32]) -> usize
     let end = put_pieces(out, start, bytes, tags);
     put_head(out, at, b'L', end - start);
     end
-}
-
-// The line that the first n entries of two buffers are.
-pub fn encode_line(bytes: &[u8], tags: &[u32], n: usize, out: &mut [u8], at: usize) -> usize
-    requires { (n ≤ length bytes.now) × (n ≤ length tags.now) × (n < 13107) × (at + 5 * n + 3 < 2 ^ 62) }
-    ensures lower_bound { (at + 3 ≤ result) × (result ≤ at + 3 + 5 * n) }
-    ensures wrote { Wrote out.old at (line_field (items bytes.now tags.now n)) out.new result }
-{
-    put_line(out, at, &bytes[..n], &tags[..n])
 }

@@ -3,6 +3,6 @@
 use Rattle.add_chars.proofs.Wording.{pushes_one}
 use Rattle.add_chars.proofs.chars.push_word.Goals as goal
 
-pub returns : goal.returns
-returns c =
-    record { counts_within_units_2 = c.push_chars.ensures.counts_within_units_2; pushes_word = pushes_one c.args.st c.args.part.now c.args.cols c.args.tag c.args.wb.now c.args.wt.now c.push_chars.result _ _ c.push_chars.ensures.pushes_chars }
+pub returns-clause-pushes_word : goal.returns-clause-pushes_word
+returns-clause-pushes_word c =
+    pushes_one c.args.block.now c.push_chars.new.block c.args.part.now c.args.cols c.args.tag c.push_chars.ensures.pushes_chars

@@ -7,7 +7,7 @@ use Rattle.add_text.proofs.Walking.{Walking}
 use Rattle.add_text.proofs.text.add_text.Given as goal
 
 abbrev pub invariant-loop-first : goal.invariant-loop-first
-invariant-loop-first l = Walking l.frame l.run l.text l.initial.lb l.initial.lt l.initial.wb l.initial.wt l.initial.out l.initial.cur l.lb l.lt l.wb l.wt l.out l.cur l.at
+invariant-loop-first l = Walking l.initial.block l.run l.text l.block l.ann l.at
 
 abbrev pub decreases-loop-first : goal.decreases-loop-first
 decreases-loop-first l = length l.text - l.at
