@@ -41,6 +41,7 @@ impl<'a> Iterator for Fields<'a> {
 
     ghost remaining = { item_count left };
 
+    #[inline(always)]
     fn next(&mut self) -> Option<Result<Field<'a>, Broken>> {
         if self.rest.is_empty() {
             return None;

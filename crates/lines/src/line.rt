@@ -4,6 +4,7 @@ ghost use Rattle.std.specs.Prelude.{◌≡◌, true, [], ◌∷◌, ◌++◌, �
 ghost use Rattle.lines.specs.Items.{item, byte_of, tag_of};
 ghost use Rattle.lines.specs.Bridge.{tagged};
 
+use fields::store::copy_slice;
 use std::marker::Model;
 
 // The buffers, and how many entries they hold.
@@ -107,7 +108,7 @@ impl<'a> TaggedLine<'a> {
         ensures room { self.new.room ≡ self.old.room }
     {
         let end = self.len + text.len();
-        self.bytes[self.len..end].copy_from_slice(text);
+        copy_slice(&mut self.bytes[self.len..end], text);
         self.tags[self.len..end].fill(tag);
         self.len = end;
     }
@@ -121,8 +122,8 @@ impl<'a> TaggedLine<'a> {
         ensures room { self.new.room ≡ self.old.room }
     {
         let end = self.len + more.len();
-        self.bytes[self.len..end].copy_from_slice(more.bytes());
-        self.tags[self.len..end].copy_from_slice(more.tags());
+        copy_slice(&mut self.bytes[self.len..end], more.bytes());
+        copy_slice(&mut self.tags[self.len..end], more.tags());
         self.len = end;
     }
 

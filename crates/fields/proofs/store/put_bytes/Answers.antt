@@ -13,4 +13,4 @@ pub returns : goal.returns
 returns c =
     let room : c.min-n.result ≡ min (length c.args.bytes.now) (length c.args.out.now - c.args.at) = omega (arith, c.min-n.ensures, c.saturating_sub.ensures) in
     let some : 0 < c.min-n.result = omega (arith, c.if-n-eq0.false) in
-    record { place = omega arith; store = sets_mid _ _ _ _ _ room some c.copy_from_slice.ensures.after }
+    record { place = omega arith; store = sets_mid _ _ _ _ _ room some c.copy_slice.ensures.after }

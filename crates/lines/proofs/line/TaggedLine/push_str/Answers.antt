@@ -11,7 +11,7 @@ returns-clause-items c =
     let len = items_length c.self.inside.bytes.now c.self.inside.tags.now c.self.inside.len (omega arith) (omega arith) in
     let room = ap (λ (e : Entries). e.room) c.self.view_is in
     let size = ap (λ (e : Entries). length e.items) c.self.view_is in
-    let bytes = c.copy_from_slice.ensures.after in
+    let bytes = c.copy_slice.ensures.after in
     let tags = part_length c.self.inside.tags.now c.self.inside.len (length c.args.text.now) (omega arith) in
     rw (← c.self.view_is)
     (items_put c.self.inside.bytes.now c.self.inside.tags.now _ _ c.self.inside.len (length c.args.text.now) _ _ (omega arith) (omega arith) (ap length bytes) (c.fill.ensures.len ∙ tags)

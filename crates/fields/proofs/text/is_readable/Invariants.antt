@@ -1,8 +1,8 @@
--- `fields::text::check_text` meets its contract: what is left to read, past a run and past a character, is as good as the whole text.
+-- `fields::text::is_readable` meets its contract: what is left to read, past a run and past a character, is as good as the whole text.
 -- Assumes nothing.
 use Rattle.std.proofs.Common.{◌-◌, length}
 use Rattle.fields.proofs.Texts.{Left}
-use Rattle.fields.proofs.text.check_text.Given as goal
+use Rattle.fields.proofs.text.is_readable.Given as goal
 
 abbrev pub invariant-loop-at : goal.invariant-loop-at
 invariant-loop-at l = Left l.controls l.text l.at
