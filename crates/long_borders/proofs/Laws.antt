@@ -4,7 +4,7 @@
 use mathlib.Core.Path.{◌≡◌, refl, sym, ap, ap₂, ◌∙◌}
 use mathlib.Core.Logic.{inl, inr, ⊎_elim}
 use mathlib.Core.Bool.{Bool, true, false}
-use mathlib.Core.List.{List, ◌++◌, append-nil}
+use mathlib.Core.List.{List, [], ◌∷◌, ◌++◌, append-nil}
 use Prim.Native.Nat.{ℕ, zero, suc, ◌+◌, ◌-◌, ◌≤◌, ◌<◌, min, max}
 use native.Mathlib.Omega.{arith}
 use native.Mathlib.Numerals.{add-one}
@@ -13,13 +13,14 @@ use Rattle.std.proofs.lemmas.List.{take_at, take-replicate}
 use Rattle.std.proofs.lemmas.Slice.{take-put_mid}
 use Rattle.std.proofs.Common.{length-take-le, length-drop}
 use native.Mathlib.Nat.{sub_self}
-use lib.ListN.{length, take, drop, get_or, replicate, length-append, length-replicate}
-use lib.Seq.{drop-cons, take_all, take-append-le, take-append-add}
+use lib.ListN.{length, take, drop, get_or, replicate, length-append, length-replicate, length-take}
+use lib.Seq.{drop-cons, take_all, take-take, take-append-le, take-append-add, take-nil}
 use Rattle.std.specs.Prelude.{if◌then◌else◌}
 use Rattle.characters.proofs.Tests.{lt_or_le}
 use Rattle.borders.specs.declared.border.Side.{Side}
 use Rattle.borders.specs.BorderSegHoriz.{Horiz, chop_left, chop_right}
 use Rattle.borders.specs.BorderHoriz.{new_type, stretch_to, joined_on, joins_from, join_on, merge_from, chop_before, cut_for}
+use Rattle.borders.specs.Buffer.{HoldsBorder}
 use Rattle.borders.proofs.Buffers.{merge_cons, merge_starts as starts, merge_ends as ends}
 use Rattle.long_borders.specs.declared.border.BorderHoriz.{BorderHoriz}
 use Rattle.long_borders.specs.Keeps.{Near, Keeps, Fills, Copies, Stretches, NearIn, Changes, ChopsBefore, Cuts, JoinsOn, MergesFrom}
@@ -76,6 +77,34 @@ keeps_fits b d k h = keeps_whole b d k (omega (arith, near_low k.size (omega (ar
 pub keeps_long : (b : BorderHoriz) (d : List ℕ) → Keeps b d → length b.buffer.now < b.len → length b.buffer.now < length d
 keeps_long b d k h = near_high (suc (length b.buffer.now)) k.size (omega (arith, k.room)) h
 
+-- The buffer's first bytes are a border that it keeps.
+pub keeps_take : (b : BorderHoriz) → length b.buffer.now ≤ 65536 → b.len ≤ length b.buffer.now → Keeps b (take b.len b.buffer.now)
+keeps_take b r h =
+    let e = length-take b.len b.buffer.now in
+    record { room = r; size = inl (omega (arith, e)); kept = take_all (length b.buffer.now) (take b.len b.buffer.now) (omega (arith, e)) }
+
+take_comm : (m n : ℕ) (l : List ℕ) → take m (take n l) ≡ take n (take m l)
+take_comm zero n l = sym (take-nil n)
+take_comm (suc m) zero l = refl
+take_comm (suc m) (suc n) [] = refl
+take_comm (suc m) (suc n) (x ∷ xs) = ap (λ (r : List ℕ). x ∷ r) (take_comm m n xs)
+
+-- A part of the buffer keeps what it has room for.
+pub keeps_part : (b c : BorderHoriz) (d : List ℕ) (m : ℕ) → c.buffer.now ≡ take m b.buffer.now → c.len ≡ b.len → Keeps b d → Keeps c d
+keeps_part b c d m p q k =
+    record { room = omega (arith, len, length-take m b.buffer.now, k.room); size = rw q k.size; kept = rw (p, q) (⊎_elim cut all (lt_or_le m (length b.buffer.now))) }
+  where
+    len : length c.buffer.now ≡ length (take m b.buffer.now)
+    len = ap length p
+
+    cut : m < length b.buffer.now → take (length (take m b.buffer.now)) d ≡ take b.len (take m b.buffer.now)
+    cut h =
+        let e : length (take m b.buffer.now) ≡ m = omega (arith, length-take m b.buffer.now) in
+        ap (λ (j : ℕ). take j d) e ∙ sym (take-take m (length b.buffer.now) d (omega arith)) ∙ ap (take m) k.kept ∙ take_comm m b.len b.buffer.now
+
+    all : length b.buffer.now ≤ m → take (length (take m b.buffer.now)) d ≡ take b.len (take m b.buffer.now)
+    all h = rw (take_all m b.buffer.now h) k.kept
+
 -- ---- made and copied
 
 -- What a copy leaves: the border up to i, its end or the buffer's.
@@ -93,17 +122,31 @@ copied b segs i f t s room = record { room = room; size = inl s; kept = ⊎_elim
         let m : i ≡ b.len = omega arith in
         take_all (length b.buffer.now) segs (omega arith) ∙ sym (take_all i segs (omega arith)) ∙ sym t ∙ ap (λ (x : ℕ). take x b.buffer.now) m
 
+-- The buffer's first bytes, filled up to i.
+filled_first : (b₀ x b : List ℕ) (i s : ℕ) → i ≤ length b₀ → x ≡ replicate (length (take i b₀)) s → b ≡ x ++ drop i b₀
+    → (take i b ≡ replicate i s) × (length b ≡ length b₀)
+filled_first b₀ x b i s within f p =
+    let x-is : x ≡ replicate i s = rw (length-take-le i b₀ within) at f in
+    let long : length x ≡ i = rw (x-is, length-replicate) refl in
+    (rw p (take_at x (drop i b₀) i long ∙ x-is), omega (arith, ap length p, length-append x (drop i b₀), length-drop i b₀, long))
+
+-- What filling the buffer up to a width within it leaves.
+pub filled_whole : (b b₀ x : List ℕ) (i w s : ℕ) → i ≡ min w (length b₀) → x ≡ replicate (length (take i b₀)) s → b ≡ x ++ drop i b₀
+    → w ≤ length b₀ → HoldsBorder b w (new_type w s)
+unfolding new_type
+filled_whole b b₀ x i w s e f p h =
+    let same : i ≡ w = omega arith in
+    let first = filled_first b₀ x b i s (omega arith) f p in
+    record { inside = omega (arith, first.1); segments = rw (← same) first.0 }
+
 -- What filling the buffer up to the width or its end leaves.
 pub filled_up : (b : BorderHoriz) (b₀ x : List ℕ) (i w s : ℕ) → i ≡ min w (length b₀) → x ≡ replicate (length (take i b₀)) s
     → b.buffer.now ≡ x ++ drop i b₀ → b.len ≡ w → Fills w s b
 unfolding new_type
 filled_up b b₀ x i w s e f p q =
-    let within : i ≤ length b₀ = omega arith in
-    let x-is : x ≡ replicate i s = rw (length-take-le i b₀ within) at f in
-    let long : length x ≡ i = rw (x-is, length-replicate) refl in
-    copied b (replicate w s) i
-    (omega (arith, ap length p, length-append x (drop i b₀), length-drop i b₀, length-replicate w s))
-    (rw p (take_at x (drop i b₀) i long) ∙ x-is ∙ sym (take-replicate i w s (omega arith))) (q ∙ sym (length-replicate w s))
+    let first = filled_first b₀ x b.buffer.now i s (omega arith) f p in
+    copied b (replicate w s) i (omega (arith, first.1, length-replicate w s)) (first.0 ∙ sym (take-replicate i w s (omega arith)))
+    (q ∙ sym (length-replicate w s))
 
 -- ---- stretched
 
@@ -112,7 +155,7 @@ unfolding stretch_to
 stretch_length b w = omega (arith, length-append b (replicate (w - length b) Horiz), length-replicate (w - length b) Horiz)
 
 -- The border is Horiz from its end up to i, the width or the buffer's end.
-keeps_stretched : (b₀ b : BorderHoriz) (w i : ℕ) → length b.buffer.now ≡ length b₀.buffer.now → b₀.len ≤ i
+pub keeps_stretched : (b₀ b : BorderHoriz) (w i : ℕ) → length b.buffer.now ≡ length b₀.buffer.now → b₀.len ≤ i
     → i - b₀.len ≡ min w (length b₀.buffer.now) - b₀.len
     → take i b.buffer.now ≡ take b₀.len b₀.buffer.now ++ replicate (i - b₀.len) Horiz → b.len ≡ max b₀.len w → Stretches b₀ w b
 unfolding stretch_to

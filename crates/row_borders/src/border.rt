@@ -10,6 +10,7 @@ use seats::row::Row;
 
 // What the row makes of a border that the old lines end in.
 pub fn prev_border(border: &mut BorderHoriz<'_>, row: &Row<'_>, collapse: bool)
+    ensures same_buffer { border.new.buffer.ghost_name ≡ border.old.buffer.ghost_name }
     ensures room { length border.new.buffer.now ≡ length border.old.buffer.now }
     ensures borders_above { BordersAbove border.old row.now collapse border.new }
 {
@@ -22,6 +23,7 @@ pub fn prev_border(border: &mut BorderHoriz<'_>, row: &Row<'_>, collapse: bool)
 
 // The border that the row ends in, before its holes, of a new one as wide as the row: joined above if there is a border above the row.
 pub fn next_border(border: &mut BorderHoriz<'_>, joined: bool, row: &Row<'_>, collapse: bool)
+    ensures same_buffer { border.new.buffer.ghost_name ≡ border.old.buffer.ghost_name }
     ensures room { length border.new.buffer.now ≡ length border.old.buffer.now }
     ensures borders_below { BordersBelow border.old joined row.now collapse border.new }
 {

@@ -33,6 +33,7 @@ fn border_from(lines: &[u8], side: Side) -> Option<Border<'_>>
 // The same border of one seat's lines, merged from a position on.
 fn merge_lines(border: &mut BorderHoriz<'_>, lines: &[u8], pos: usize, side: Side)
     requires { pos < 8589934592 }
+    ensures same_buffer { border.new.buffer.ghost_name ≡ border.old.buffer.ghost_name }
     ensures room { length border.new.buffer.now ≡ length border.old.buffer.now }
     ensures merges_lines { MergesLines side border.old lines.now pos border.new }
 {
@@ -43,6 +44,7 @@ fn merge_lines(border: &mut BorderHoriz<'_>, lines: &[u8], pos: usize, side: Sid
 
 // The first borders of the cells of a row merged from below, or the last ones merged from above.
 pub fn merge_seats(border: &mut BorderHoriz<'_>, row: &Row<'_>, side: Side)
+    ensures same_buffer { border.new.buffer.ghost_name ≡ border.old.buffer.ghost_name }
     ensures room { length border.new.buffer.now ≡ length border.old.buffer.now }
     ensures merges_seats { MergesSeats side border.old row.now border.new }
 {

@@ -7,12 +7,14 @@ pub loop-i-preserved : goal.loop-i-preserved
 loop-i-preserved c =
     elim c.if-joins.branch [
       | then-joins w ↦ rw w.self-is record {
+        same_buffer = w.join_on.ensures.same_buffer ∙ c.loop-i.invariant.same_buffer;
         room = w.join_on.ensures.room ∙ c.loop-i.invariant.room;
         longer = omega arith;
         bound = omega arith;
         so_far = merge_joins c.args.side c.args.self.now _ _ c.args.other.now c.args.pos c.loop-i.i c.loop-i-test.true (sym c.joins.ensures ∙ w.if-joins.true) w.join_on.ensures.joins_on c.loop-i.invariant.so_far;
       }
       | else-joins w ↦ rw w.self-is record {
+        same_buffer = c.loop-i.invariant.same_buffer;
         room = c.loop-i.invariant.room;
         longer = c.loop-i.invariant.longer;
         bound = omega arith;

@@ -6,6 +6,7 @@ use Rattle.long_borders.proofs.border.BorderHoriz.merge_from.Given as goal
 abbrev pub invariant-loop-i : goal.invariant-loop-i
 invariant-loop-i l =
     record {
+      same_buffer : l.self.buffer.ghost_name ≡ l.initial.self.buffer.ghost_name;
       room : length l.self.buffer.now ≡ length l.initial.self.buffer.now;
       longer : l.initial.self.len ≤ l.self.len;
       bound : l.self.len ≤ max l.initial.self.len (l.pos + l.i);
