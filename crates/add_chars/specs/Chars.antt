@@ -16,6 +16,19 @@ use Rattle.flush_word.specs.Keep.{Keeps}
 use Rattle.flush_word.specs.declared.state.WrappedBlock.{WrappedBlock}
 use Rattle.add_chars.specs.declared.stops.TabAt.{TabAt}
 
+-- ---- room
+
+-- the word's buffers are as long as 4,096 units ask
+abbrev pub WordLongEnough : WrappedBlock → Type 0
+WordLongEnough o = 4096 ≤ o.word.entries.room
+
+-- the line's buffers are as long as 4,096 units and the width ask
+pub record LineLongEnough (o : OpenLine) : Type 0 where
+  pub positive : 0 < o.frame.width
+  pub small : o.frame.width < 256
+  pub default : o.frame.default_tag < 256
+  pub room : 4608 ≤ o.entries.room
+
 -- ---- LF
 
 abbrev pub Newlines : WrappedBlock → WrappedBlock → Type 0

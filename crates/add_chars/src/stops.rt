@@ -1,17 +1,18 @@
 // LF and tab where white space is kept.
 ghost use Rattle.std.specs.Prelude.{◌≡◌, ◌+◌, ◌<◌};
 ghost use Rattle.hard_wrap.specs.Hold.{Stays};
-ghost use Rattle.flush_word.specs.Keep.{CountsWithinUnits, BuffersLongEnough, BlockStays};
-ghost use Rattle.add_chars.specs.Chars.{Newlines, TabFits, TabMoved, Turns, Tabbed, Tabs, Tabbing};
+ghost use Rattle.flush_word.specs.Keep.{CountsWithinUnits, BlockStays};
+ghost use Rattle.add_chars.specs.Chars.{LineLongEnough, Newlines, TabFits, TabMoved, Turns, Tabbed, Tabs, Tabbing};
 
 use flush_word::state::{NO_BLANKS, WrappedBlock};
 use hard_wrap::line::OpenLine;
 
 // '\n': the line is closed, even an empty one, and pending blanks are gone.
 pub fn newline(block: &mut WrappedBlock<'_>)
-    requires counts_within_units { CountsWithinUnits block.old × BuffersLongEnough block.old }
+    requires counts_within_units { CountsWithinUnits block.old × LineLongEnough block.old.line }
     requires used_bound { block.old.used < 4096 }
     ensures stays { BlockStays block.old block.new }
+    ensures word_stays { block.new.word ≡ block.old.word }
     ensures counts_within_units_2 { CountsWithinUnits block.new × (block.new.used ≡ block.old.used + 1) }
     ensures newlines { Newlines block.old block.new }
 {
@@ -65,9 +66,10 @@ fn tab_line(line: &mut OpenLine<'_>, start: TabAt, tag: u32)
 
 // '\t' after the word is flushed: the position is counted over line, word and pending blanks.
 pub fn tab(block: &mut WrappedBlock<'_>, tag: u32)
-    requires counts_within_units { CountsWithinUnits block.old × BuffersLongEnough block.old }
+    requires counts_within_units { CountsWithinUnits block.old × LineLongEnough block.old.line }
     requires used_bound { block.old.used < 4096 }
     ensures stays { BlockStays block.old block.new }
+    ensures word_stays { block.new.word ≡ block.old.word }
     ensures counts_within_units_2 { CountsWithinUnits block.new × (block.new.used ≡ block.old.used + 1) }
     ensures tabbing { Tabbing block.old tag block.new }
 {

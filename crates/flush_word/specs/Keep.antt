@@ -1,6 +1,6 @@
 -- What the block of the code holds of the flat block, the numbers that keep it in bounds, and the step of each function.
 -- Assumes nothing: these are definitions.
-use Rattle.std.specs.Prelude.{◌≡◌, Bool, true, false, List, ℕ, ◌+◌, ◌*◌, ◌<◌, ◌≤◌, min, length, drop, Result, IfOk, MatchResult}
+use Rattle.std.specs.Prelude.{◌≡◌, ◌⊎◌, Bool, true, false, List, [], ℕ, ◌+◌, ◌*◌, ◌<◌, ◌≤◌, min, length, drop, Result, IfOk, MatchResult}
 use Rattle.std.proofs.Math.Option.{Option, none, some}
 use Rattle.fields.specs.declared.job.Setup.{Setup}
 use Rattle.fields.specs.Job.{pre}
@@ -143,6 +143,10 @@ ResultIs to d₀ base x r = MatchResult x (λ _. NextBlock to d₀ base r) (λ _
 -- the numbers after a flush
 abbrev pub StaysWithinUnits : ℕ → Result Unit TooNarrow → WrappedBlock → Type 0
 StaysWithinUnits used x r = IfOk x (λ _. CountsWithinUnits r × (r.used ≡ used))
+
+-- the word as it was, or after an Ok one of no entries
+abbrev pub WordStands : WrappedBlock → Result Unit TooNarrow → WrappedBlock → Type 0
+WordStands o x r = MatchResult x (λ _. (r.word ≡ o.word) ⊎ (r.word.entries.items ≡ [])) (λ _. r.word ≡ o.word)
 
 -- "Not enough space"
 abbrev pub WrapsWord : WrappedBlock → Result Unit TooNarrow → WrappedBlock → Type 0

@@ -1,6 +1,6 @@
 // `flush_word`.
-ghost use Rattle.std.specs.Prelude.{◌≡◌, true, ◌+◌, ◌-◌, ◌≤◌, length};
-ghost use Rattle.flush_word.specs.Keep.{CountsWithinUnits, BuffersLongEnough, BlockStays, PutsWord, StartsPre, StartsAt, Opened, OpensLine, StaysWithinUnits, WrapsWord, FlushesWord};
+ghost use Rattle.std.specs.Prelude.{◌≡◌, true, [], ◌+◌, ◌-◌, ◌≤◌, length};
+ghost use Rattle.flush_word.specs.Keep.{CountsWithinUnits, BuffersLongEnough, BlockStays, PutsWord, StartsPre, StartsAt, Opened, OpensLine, StaysWithinUnits, WordStands, WrapsWord, FlushesWord};
 
 use crate::state::{NO_BLANKS, WrappedBlock};
 use crate::trim::white_front;
@@ -26,6 +26,7 @@ impl WrappedBlock<'_> {
         requires cols_bound { self.old.blanks.count + self.old.word.cols ≤ self.old.line.frame.width - self.old.line.cols }
         ensures stays { BlockStays self.old self.new }
         ensures counts_within_units_2 { CountsWithinUnits self.new × (self.new.used ≡ self.old.used) }
+        ensures emptied { self.new.word.entries.items ≡ [] }
         ensures puts_word { PutsWord self.old self.new }
     {
         self.line
@@ -70,6 +71,7 @@ impl WrappedBlock<'_> {
         requires text_value { self.old.word.has_text ≡ true }
         ensures stays { BlockStays self.old self.new }
         ensures stays_within_units { StaysWithinUnits self.old.used result self.new }
+        ensures word_stands { WordStands self.old result self.new }
         ensures wraps_word { WrapsWord self.old result self.new }
     {
         let pre = starts_pre(&self.word.entries);
@@ -87,6 +89,7 @@ impl WrappedBlock<'_> {
         requires { CountsWithinUnits self.old × BuffersLongEnough self.old }
         ensures stays { BlockStays self.old self.new }
         ensures stays_within_units { StaysWithinUnits self.old.used result self.new }
+        ensures word_stands { WordStands self.old result self.new }
         ensures flushes_word { FlushesWord self.old result self.new }
     {
         if !self.word.has_text {
