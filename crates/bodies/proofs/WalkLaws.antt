@@ -8,8 +8,8 @@ use Prim.Native.Nat.{ℕ, suc, ◌+◌, ◌-◌, ◌*◌, ◌≤◌, ◌<◌}
 use native.Mathlib.Omega.{arith}
 use lib.Dec.{eqb, leb}
 use lib.ListN.{length, take, drop, get_or, length-append, length-drop, drop_of_length-le}
-use lib.Seq.{drop-drop}
-use borrow.Author.Tests.{leb-true, not-true}
+use lib.Seq.{drop-drop, take_all}
+use borrow.Author.Tests.{leb-true, le-ltb, lt-ltb, not-true}
 use Rattle.std.proofs.Common.{Option as Maybe, Some, None}
 use Rattle.std.proofs.lemmas.List.{length-take, length-take-le, take-take, drop-take}
 use Rattle.std.specs.Prelude.{MatchOption, IfSome, if◌then◌else◌}
@@ -22,7 +22,7 @@ use Rattle.fields.proofs.Readings.{read_first, read_none, read_on, read_size}
 use Rattle.fields.proofs.Fields.{raws_nil, raws_cons, raws_empty}
 use Rattle.fields.specs.Spans.{RenderLine, text, border, read_line}
 use Rattle.rows.specs.SubRenderer.{is_border, starts_border, without_top}
-use Rattle.bodies.specs.Walk.{PassesTop, TellsTop, LastIs, unholed, WalkedIn, Walks, Skips}
+use Rattle.bodies.specs.Walk.{PassesTop, PassesOnlyTop, TellsTop, LastIs, unholed, WalkedIn, Walks, Skips}
 use Rattle.bodies.specs.declared.walk.Walked.{Walked}
 use Rattle.bodies.proofs.LineLaws.{first_line, no_lines, none_first, line_kind, line_border, line_text, line_unholed}
 use Rattle.places.proofs.BorderLaws.{broken_line}
@@ -56,6 +56,21 @@ pub top_none : (bytes : List ℕ) → (0 < length bytes → raws bytes ≡ broke
 top_none bytes e ls c =
     let n : ls ≡ [] = no_lines bytes ls (none_first bytes ls e c) c in
     rw n (rw n at c)
+
+-- a first border takes bytes
+pub only_border : (bytes rest : List ℕ) (f : Field) → raws bytes ≡ whole_of f ∷ raws rest → (f.letter ≡ 0x4C → ⊥) → length rest < length bytes → PassesOnlyTop bytes rest
+only_border bytes rest f e k less ls c =
+    let r = first_line bytes rest f ls e c in
+    ap starts_border r.are ∙ line_border f.letter f.content.now r.one r.reads k ∙ sym (lt-ltb (length rest) (length bytes) less)
+
+-- a first text takes none, and no more do no lines
+pub only_text : (bytes rest : List ℕ) (f : Field) → raws bytes ≡ whole_of f ∷ raws rest → f.letter ≡ 0x4C → PassesOnlyTop bytes bytes
+only_text bytes rest f e k ls c =
+    let r = first_line bytes rest f ls e c in
+    ap starts_border r.are ∙ line_text f.letter f.content.now r.one r.reads k ∙ sym (le-ltb (length bytes) (length bytes) (omega arith))
+
+pub only_none : (bytes : List ℕ) → (0 < length bytes → raws bytes ≡ broken ∷ []) → PassesOnlyTop bytes bytes
+only_none bytes e ls c = ap starts_border (no_lines bytes ls (none_first bytes ls e c) c) ∙ sym (le-ltb (length bytes) (length bytes) (omega arith))
 
 -- the first byte of bytes that are lines is the letter of the first line
 tells : (x : ℕ) (bytes : List ℕ) (ls : List RenderLine) → read_all read_line (raws (x ∷ bytes)) ≡ some ls → starts_border ls ≡ not (eqb x 0x4C)
@@ -152,6 +167,17 @@ pub record Last (f : Field) (bytes : List ℕ) (front : List Raw) : Type 0 where
   pub are : front ≡ earlier ++ (whole_of f ∷ [])
   pub bytes_are : raws bytes ≡ earlier
 
+-- the bytes from a place on, without the first so many
+pub behind_on : (bytes rest next : List ℕ) (n : ℕ) → length rest ≤ length bytes → rest ≡ drop (length bytes - length rest) bytes → next ≡ drop n rest
+    → length rest ≡ n + length next → next ≡ drop (length bytes - length next) bytes
+behind_on bytes rest next n few e f size =
+    let m : length bytes - length rest + n ≡ length bytes - length next = omega arith in
+    f ∙ ap (drop n) e ∙ drop-drop n (length bytes - length rest) bytes ∙ ap (λ (i : ℕ). drop i bytes) m
+
+-- all bytes
+pub behind_none : (bytes : List ℕ) → bytes ≡ drop (length bytes - length bytes) bytes
+behind_none bytes = let z : length bytes - length bytes ≡ 0 = omega arith in rw z refl
+
 -- the fields passed so far, and those ahead
 pub record Passed (bytes rest : List ℕ) (w : Walked) : Type 0 where
   pub front : List Raw
@@ -162,6 +188,11 @@ pub record Passed (bytes rest : List ℕ) (w : Walked) : Type 0 where
   pub count_is : w.count ≡ length front
   pub plain : w.holed ≡ false → all plain_field front ≡ true
   pub last_is : MatchOption w.last (front ≡ []) (λ f. Last f w.before.now front)
+  pub ahead : rest ≡ drop (length bytes - length rest) bytes
+  pub first : w.before.now ≡ take (length w.before.now) bytes
+  pub near : length bytes ≤ length w.before.now + 65538 + length rest
+  pub inside : IfSome w.last (λ f. length w.before.now + 3 ≤ length bytes)
+  pub behind : MatchOption w.last (w.before.now ≡ bytes) (λ f. raws (drop (length w.before.now) bytes) ≡ whole_of f ∷ raws rest)
 
 -- Nothing is passed at first.
 pub passed_start : (bytes : List ℕ) (w : Walked) → w.last ≡ None → w.before.now ≡ bytes → w.count ≡ 0 → w.holed ≡ false → Passed bytes bytes w
@@ -176,6 +207,11 @@ passed_start bytes w l b c h =
       count_is = c;
       plain = λ _. refl;
       last_is = rw l refl;
+      ahead = behind_none bytes;
+      first = rw b (sym (take_all (length bytes) bytes (omega arith)));
+      near = omega (arith, ap length b);
+      inside = rw l tt;
+      behind = rw l b;
     }
 
 -- one more
@@ -189,12 +225,14 @@ all_snoc p (y ∷ xs) x h k =
 
 -- A field that stands next is passed.
 pub passed_on : (bytes rest next : List ℕ) (f : Field) (w v : Walked) → Passed bytes rest w → raws rest ≡ whole_of f ∷ raws next
+    → next ≡ drop (3 + length f.content.now) rest → length f.content.now < 65536
     → length rest ≡ 3 + length f.content.now + length next → v.last ≡ Some f → v.before.now ≡ take (length bytes - length rest) bytes → v.count ≡ w.count + 1
     → v.holed ≡ (w.holed || eqb f.letter 0x47) → Passed bytes next v
-passed_on bytes rest next f w v p e n l b c h =
+passed_on bytes rest next f w v p e behind short n l b c h =
     let front = p.front ++ (whole_of f ∷ []) in
     let room = p.size in
     let before : length bytes - length rest ≡ raws_size p.front = omega arith in
+    let taken : length v.before.now ≡ length bytes - length rest = ap length b ∙ length-take-le (length bytes - length rest) bytes (omega arith) in
     let all_are : raws bytes ≡ p.front ++ (whole_of f ∷ raws next) = p.are ∙ ap (λ (z : List Raw). p.front ++ z) e in
     record {
       front = front;
@@ -207,6 +245,11 @@ passed_on bytes rest next f w v p e n l b c h =
           λ k.
           let q : (w.holed || eqb f.letter 0x47) ≡ false = sym h ∙ k in
           all_snoc plain_field p.front (whole_of f) (p.plain (or_left w.holed (eqb f.letter 0x47) q)) (rw (or_right w.holed (eqb f.letter 0x47) q));
+      ahead = behind_on bytes rest next (3 + length f.content.now) (omega arith) p.ahead behind n;
+      first = b ∙ ap (λ (i : ℕ). take i bytes) (sym taken);
+      near = omega (arith, taken, n, short, room);
+      inside = rw l (omega (arith, taken, n, room));
+      behind = rw l (ap (λ (i : ℕ). raws (drop i bytes)) taken ∙ ap raws (sym p.ahead) ∙ e);
       last_is = rw l (record { earlier = p.front; are = refl; bytes_are = rw (b, before) (front_raws p.front f.letter f.content.now (raws next) bytes all_are) });
     }
 
@@ -269,8 +312,35 @@ there : (last : Maybe Field) (bytes : List ℕ) (front : List Raw) (n : ℕ) →
 there None bytes front n c h = tt
 there (Some f) bytes front n c h = omega (arith, ap length h.are, length-append h.earlier (whole_of f ∷ []))
 
-pub passed_numbers : (bytes rest : List ℕ) (w : Walked) → Passed bytes rest w → WalkedIn bytes w
-passed_numbers bytes rest w p = record { few = omega (arith, p.few); shorter = p.shorter; there = there w.last w.before.now p.front w.count p.count_is p.last_is }
+alone : (last : Maybe Field) (before bytes rest : List ℕ) → length rest ≡ 0 → MatchOption last (before ≡ bytes) (λ f. raws (drop (length before) bytes) ≡ whole_of f ∷ raws rest)
+    → MatchOption last (before ≡ bytes) (λ f. raws (drop (length before) bytes) ≡ whole_of f ∷ [])
+alone None before bytes rest n h = h
+alone (Some f) before bytes rest n h = h ∙ ap (λ (z : List Raw). whole_of f ∷ z) (raws_empty rest n)
+
+pub passed_numbers : (bytes rest : List ℕ) (w : Walked) → Passed bytes rest w → length rest ≡ 0 → WalkedIn bytes w
+passed_numbers bytes rest w p n =
+    record {
+      few = omega (arith, p.few);
+      shorter = p.shorter;
+      there = there w.last w.before.now p.front w.count p.count_is p.last_is;
+      front = p.first;
+      near = omega (arith, p.near, n);
+      inside = p.inside;
+      behind = alone w.last w.before.now bytes rest n p.behind;
+    }
+
+-- Without a last line the bytes before it are all.
+pub passed_nothing : (bytes : List ℕ) (w : Walked) → w.last ≡ None → w.before.now ≡ bytes → w.count ≤ length bytes → WalkedIn bytes w
+passed_nothing bytes w l b few =
+    record {
+      few = few;
+      shorter = omega (arith, ap length b);
+      there = rw l tt;
+      front = rw b (sym (take_all (length bytes) bytes (omega arith)));
+      near = omega (arith, ap length b);
+      inside = rw l tt;
+      behind = rw l b;
+    }
 
 broken_last : (rs : List Raw) (ls : List RenderLine) → read_all read_line (rs ++ (broken ∷ [])) ≡ some ls → ⊥
 unfolding read_all

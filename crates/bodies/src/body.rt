@@ -41,12 +41,15 @@ pub fn body_of(lines: &[u8], collapse: bool) -> Body<'_>
     let lines = without_top(lines);
     let walked = walk_lines(lines);
     match walked.last {
-        Some(last) if last.letter != b'L' => Body {
-            lines: walked.before,
-            bottom: Some(Border::of(last)),
-            count: walked.count - 1,
-            holed: walked.holed,
-        },
+        Some(last) if last.letter != b'L' => {
+            let border = Border::of(last);
+            Body {
+                lines: walked.before,
+                bottom: Some(border),
+                count: walked.count - 1,
+                holed: walked.holed,
+            }
+        }
         _ => Body::all(lines, walked),
     }
 }

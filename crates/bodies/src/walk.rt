@@ -1,6 +1,6 @@
 // Walks over lines that stand in bytes, one after the other.
 ghost use Rattle.std.specs.Prelude.{◌≡◌, ◌-◌, ◌≤◌, length, drop};
-ghost use Rattle.bodies.specs.Walk.{PassesTop, TellsTop, WalkedIn, Walks, Skips};
+ghost use Rattle.bodies.specs.Walk.{PassesTop, PassesOnlyTop, TellsTop, WalkedIn, Walks, Skips};
 
 use fields::list::split_field;
 use fields::raw::Field;
@@ -20,6 +20,7 @@ pub fn without_top(lines: &[u8]) -> &[u8]
     ensures shorter { length result.now ≤ length lines.now }
     ensures behind { result.now ≡ drop (length lines.now - length result.now) lines.now }
     ensures passes_top { PassesTop lines.now result.now }
+    ensures passes_only_top { PassesOnlyTop lines.now result.now }
 {
     match split_field(lines) {
         Some((first, rest)) if first.letter != b'L' => rest,
@@ -69,6 +70,7 @@ pub fn walk_lines(lines: &[u8]) -> Walked<'_>
 // The lines behind the first n, or none.
 pub fn skip_lines(lines: &[u8], n: usize) -> &[u8]
     ensures shorter { length result.now ≤ length lines.now }
+    ensures behind { result.now ≡ drop (length lines.now - length result.now) lines.now }
     ensures skips { Skips lines.now n result.now }
 {
     let mut rest = lines;
