@@ -178,7 +178,7 @@ is_border_lem letter bytes g other read =
     some_of (λ l. is_border l ≡ true) _ g (rw (ne_eqb letter 0x4C other) at read)
     (by_if P (eqb letter 0x42) (λ _. plain_border_lem bytes) (λ _. by_if P (eqb letter 0x47) (λ _. holes_border bytes) (λ _. tt)))
 
-not_text : (letter : ℕ) (bytes : List ℕ) (ps : List Piece) → (letter ≡ 0x4C → ⊥) → read_line (whole letter bytes) ≡ some (text ps) → ⊥
+pub not_text : (letter : ℕ) (bytes : List ℕ) (ps : List Piece) → (letter ≡ 0x4C → ⊥) → read_line (whole letter bytes) ≡ some (text ps) → ⊥
 not_text letter bytes ps other read =
     let no : false ≡ true = is_border_lem letter bytes (text ps) other read in
     let z : ◌≡◌ {A = ℕ} 0 1 = cc in
@@ -210,30 +210,30 @@ prefixed_border o₀ o₁ o₂ o₃ o₄ p r s names prefix cols letter bytes ne
 -- ---- the lines of a guest
 
 -- the pairs that are left, where the prefixes to come are known
-abbrev AddsPairs : List ℕ → Added → RenderOptions → List ℕ → List Raw → List Raw → Bool → RustOption Prefix → List ℕ → Added → Type 0
+abbrev pub AddsPairs : List ℕ → Added → RenderOptions → List ℕ → List Raw → List Raw → Bool → RustOption Prefix → List ℕ → Added → Type 0
 AddsPairs out p s names fields coming rep last out' r =
     (ns : List (List ℕ)) (gs : List RenderLine) (ps : List (List ℕ)) → NamesOf (drop p.from names) ns → read_all read_line fields ≡ some gs
     → all readable_line gs ≡ true → Coming coming rep last ps → guest_misfit rep gs ps ≡ false → Adds out p s names ns (behind_prefixes s rep gs ps) out' r
 
 module _ (out : List ℕ) (p : Added) (s : RenderOptions) (names : List ℕ) (fields coming : List Raw) (rep : Bool) (last : RustOption Prefix) where
   -- No prefix is left.
-  pairs_out : (coming' : List Raw) (q : RustOption Prefix) → Steps coming rep last coming' q → q ≡ None → AddsPairs out p s names fields coming rep last out p
+  pub pairs_out : (coming' : List Raw) (q : RustOption Prefix) → Steps coming rep last coming' q → q ≡ None → AddsPairs out p s names fields coming rep last out p
   pairs_out coming' q steps lost ns gs ps reads read ok c apart =
       let none_left : ps ≡ [] = subst (λ (o : RustOption Prefix). Found o coming' rep ps) lost (steps ps c) in
       rw (none_left, paired_out s rep gs) (adds_none out p s names ns reads)
 
   -- No line is left.
-  pairs_none : fields ≡ [] → AddsPairs out p s names fields coming rep last out p
+  pub pairs_none : fields ≡ [] → AddsPairs out p s names fields coming rep last out p
   pairs_none is ns gs ps reads read ok c apart =
       let none_left = read_none read_line gs (sym (ap (read_all read_line) is) ∙ read) in
       rw (none_left, paired_none s rep ps) (adds_none out p s names ns reads)
 
   -- A rest that is no field.
-  pairs_broken : (rest : List Raw) → fields ≡ broken ∷ rest → AddsPairs out p s names fields coming rep last out p
+  pub pairs_broken : (rest : List Raw) → fields ≡ broken ∷ rest → AddsPairs out p s names fields coming rep last out p
   pairs_broken rest is ns gs ps reads read ok c apart = absurd (broken_line rest gs (sym (ap (read_all read_line) is) ∙ read))
 
   -- One pair, which takes the names that wait, and those after it.
-  pairs_on : (mid out' : List ℕ) (m : Lines) (r : Added) (coming' : List Raw) (q : RustOption Prefix) (pre : Prefix) (field : Raw) (rest : List Raw) → Steps coming rep last coming' q
+  pub pairs_on : (mid out' : List ℕ) (m : Lines) (r : Added) (coming' : List Raw) (q : RustOption Prefix) (pre : Prefix) (field : Raw) (rest : List Raw) → Steps coming rep last coming' q
       → q ≡ Some pre → fields ≡ field ∷ rest → AddsPrefixed out p.lines s (drop p.from names) pre.text.now pre.cols field mid m
       → AddsPairs mid (added m (length names)) s names rest coming' rep q out' r → AddsPairs out p s names fields coming rep last out' r
   unfolding all

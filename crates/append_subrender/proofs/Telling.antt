@@ -66,10 +66,10 @@ cell_told letter w bytes body t is told c read =
 pub cell_empty : (letter : ℕ) (bytes : List ℕ) (t : Bool) → bytes ≡ [] → TellsCell (whole letter bytes) t
 cell_empty letter bytes t is c read = absurd (no_width_lem letter c (rw is at read))
 
-cells_none_left : TellsCellFields [] false
+pub cells_none_left : TellsCellFields [] false
 cells_none_left cs read = sym (ap cells_misfit (read_none read_plain_cell cs read) ∙ cells_misfit_none)
 
-cells_broken : (rest : List Raw) (r : Bool) → TellsCellFields (broken ∷ rest) r
+pub cells_broken : (rest : List Raw) (r : Bool) → TellsCellFields (broken ∷ rest) r
 cells_broken rest r cs read = absurd (no_cells_read rest cs read)
 
 -- the first cell tells

@@ -47,19 +47,19 @@ field_most out out' at letter bytes next w = omega (arith, length_field letter b
 -- ---- a row of fields
 
 -- No field more.
-copies_none : (out : List ℕ) (p : Lines) → CopiesFields out p [] out p
+pub copies_none : (out : List ℕ) (p : Lines) → CopiesFields out p [] out p
 unfolding read_all
 copies_none out p new read st ls e =
     let n : [] ≡ new = some-injective [] new read in
     rw (← n, append-nil ls) e
 
 -- A rest that is no field reads as no lines.
-copies_broken : (out out' : List ℕ) (p r : Lines) (rest : List Raw) → CopiesFields out p (broken ∷ rest) out' r
+pub copies_broken : (out out' : List ℕ) (p r : Lines) (rest : List Raw) → CopiesFields out p (broken ∷ rest) out' r
 unfolding read_all read_line
 copies_broken out out' p r rest new read st ls e = absurd (let z : ◌≡◌ {A = ℕ} 0 1 = cc in omega arith)
 
 -- A field, and those after it.
-copies_on : (out mid out' : List ℕ) (p q r : Lines) (field : Raw) (rest : List Raw)
+pub copies_on : (out mid out' : List ℕ) (p q r : Lines) (field : Raw) (rest : List Raw)
     → OfBytes field → CopiesLine out p field mid q → CopiesFields mid q rest out' r → CopiesFields out p (field ∷ rest) out' r
 unfolding read_all
 copies_on out mid out' p q r field rest known one others new read st ls e = go (read_line field) (read_all read_line rest) refl refl read

@@ -4,12 +4,12 @@ use mathlib.Core.Path.{◌≡◌, refl, sym, ap, ap₂, ◌∙◌}
 use mathlib.Core.Bool.{Bool, true, false}
 use mathlib.Core.Option.{none, some}
 use mathlib.Core.List.{List, [], ◌∷◌, ◌++◌, append-nil, append_assoc}
-use Prim.Native.Nat.{ℕ, ◌+◌, ◌-◌, ◌*◌, ◌≤◌, ◌<◌}
+use Prim.Native.Nat.{ℕ, ◌+◌, ◌-◌, ◌*◌, ◌^◌, ◌≤◌, ◌<◌}
 use native.Mathlib.Omega.{arith}
 use lib.Dec.{eqb}
 use lib.ListN.{length, take, drop, get_or, length-append}
 use lib.Seq.{sets}
-use borrow.Author.Tests.{eqb-true, eq-eqb, ne_eqb}
+use borrow.Author.Tests.{eqb-true, eqb-false, eq-eqb, ne_eqb}
 use Rattle.std.specs.Prelude.{if◌then◌else◌}
 use Rattle.characters.proofs.Tests.{and_left, and_right}
 use Rattle.fields.specs.Field.{field, Raw, whole, broken, raws, read_all, all}
@@ -20,13 +20,14 @@ use Rattle.fields.proofs.Texts.{rest}
 use Rattle.fields.proofs.Readings.{read_first, read_none}
 use Rattle.fields.proofs.Sizes.{raws_size, raws_bytes}
 use Rattle.fields.proofs.Back.{every_append, Every}
-use Rattle.fields.proofs.Sets.{sets_append}
+use Rattle.fields.proofs.Sets.{sets_append, wrote_none, wrote_then}
+use Rattle.block.proofs.Bounds.{length_field}
 use Rattle.fields.specs.Text.{WellFormed}
 use Rattle.fields.specs.TaggedLine.{WellFormedPiece, join, push, add_piece, add_pieces}
 use Rattle.rows.proofs.Lines.{line_width_append, readable_formed}
 use Rattle.rows.proofs.Reading.{every_from}
 use Rattle.tagged_line.specs.Held.{Within, LineGrown, Held, Pushes}
-use Rattle.tagged_line.specs.Pieces.{AddsFragment, AddsTextPiece, AddsPiece, AddsPieces}
+use Rattle.tagged_line.specs.Pieces.{PiecesOf, AddsFragment, AddsTextPiece, AddsPiece, AddsPieces, Copies}
 use Rattle.tagged_line.specs.declared.line.Line.{Line}
 use Rattle.tagged_line.proofs.Holding.{pieces_append}
 
@@ -156,6 +157,96 @@ add_name false l n = refl
 pub laid_name : (out out' : List ℕ) (p r : Line) (letter : ℕ) (t : List ℕ) (joins : Bool) → (letter ≡ 0x53 → ⊥)
     → AddsFragment out p t out' r → AddsPiece out p (whole letter t) joins out' r
 laid_name out out' p r letter t joins d f q e ok st l h = rw ((read_name_lem letter t q d e).0, add_name joins l t) (f st l h)
+
+-- ---- copying
+
+-- what is read as a piece is written as it stands
+read_written : (letter : ℕ) (t : List ℕ) (q : Piece) → read_piece (whole letter t) ≡ some q → piece_bytes q ≡ field letter t
+unfolding read_piece
+read_written letter t q e = go (eqb letter 0x53) refl
+  where
+    go : (b : Bool) → eqb letter 0x53 ≡ b → piece_bytes q ≡ field letter t
+    go true k =
+        let el = eqb-true letter 0x53 k in
+        rw el (read_str_lem t q (rw k at e)).2
+    go false k =
+        let (eq, el) = read_name_lem letter t q (eqb-false letter 0x53 k) e in
+        rw (eq, el)
+
+-- Some fields of a content are copied, of so many bytes, and the others are left.
+pub record Copying (out₀ : List ℕ) (place : ℕ) (content out : List ℕ) (to : ℕ) (left : List Raw) : Type 0 where
+  pub copied : ℕ
+  pub room : copied + raws_size left ≤ length content
+  pub moved : to ≡ place + copied
+  pub size : length out ≡ length out₀
+  pub pieces : (ps : List Piece) → PiecesOf content ps
+      → (qs : List Piece) × (rs : List Piece) × (read_all read_piece left ≡ some rs) × (qs ++ rs ≡ ps) × Wrote out₀ place (pieces_bytes qs) out to
+
+-- before the first
+pub copy_start : (out : List ℕ) (place : ℕ) (content : List ℕ) (left : List Raw) → left ≡ raws content → Copying out place content out place left
+unfolding pieces_bytes
+copy_start out place content left e =
+    rw e
+    (record {
+      copied = 0;
+      room = omega (arith, raws_bytes content);
+      moved = omega arith;
+      size = refl;
+      pieces = λ ps reads. ([], ps, reads, refl, wrote_none out place);
+    })
+
+module _ (out₀ : List ℕ) (place : ℕ) (content out : List ℕ) (to : ℕ) (left : List Raw) (w : Copying out₀ place content out to left) where
+  -- the room that is left for a field
+  pub copy_room : (letter : ℕ) (t : List ℕ) (rest : List Raw) → left ≡ whole letter t ∷ rest → place + length content < 2 ^ 62 → to + 3 + length t < 2 ^ 62
+  copy_room letter t rest e few =
+      let n : raws_size left ≡ 3 + length t + raws_size rest = ap raws_size e in
+      omega (arith, w.room, w.moved, few)
+
+  -- one field on
+  pub copy_on : (out' : List ℕ) (r letter : ℕ) (t : List ℕ) (rest : List Raw) → left ≡ whole letter t ∷ rest → length out' ≡ length out
+      → Wrote out to (field letter t) out' r → Copying out₀ place content out' r rest
+  copy_on out' r letter t rest e k v =
+      let n : raws_size left ≡ 3 + length t + raws_size rest = ap raws_size e in
+      record {
+        copied = w.copied + (3 + length t);
+        room = omega (arith, w.room);
+        moved = omega (arith, w.moved, v.place, length_field letter t);
+        size = k ∙ w.size;
+        pieces = λ ps reads.
+            let (qs, rs, left_reads, all_are, u) = w.pieces ps reads in
+            let x = read_first read_piece (whole letter t) rest rs (rw e at left_reads) in (
+              qs ++ (x.one ∷ []),
+              x.more,
+              x.later,
+              append_assoc qs (x.one ∷ []) x.more ∙ ap (λ (z : List Piece). qs ++ z) (sym x.are) ∙ all_are,
+              rw (bytes_last qs x.one, read_written letter t x.one x.first) (wrote_then u v),
+            );
+      }
+
+  -- a rest that is no field
+  pub copy_broken : (rest : List Raw) → left ≡ broken ∷ rest → Copying out₀ place content out to rest
+  unfolding read_piece
+  copy_broken rest e =
+      let n : raws_size left ≡ raws_size rest = ap raws_size e in
+      record {
+        copied = w.copied;
+        room = omega (arith, w.room);
+        moved = w.moved;
+        size = w.size;
+        pieces = λ ps reads.
+            let (qs, rs, left_reads, all_are, u) = w.pieces ps reads in
+            let x = read_first read_piece broken rest rs (rw e at left_reads) in
+            let none_is : none ≡ some x.one = x.first in
+            absurd (let z : ◌≡◌ {A = ℕ} 0 1 = cc in omega arith);
+      }
+
+  -- past the last
+  pub copy_end : left ≡ [] → Copies out₀ place content out to
+  copy_end e ps reads =
+      let (qs, rs, left_reads, all_are, u) = w.pieces ps reads in
+      let none_left : rs ≡ [] = read_none read_piece rs (rw e at left_reads) in
+      let all : qs ≡ ps = sym (append-nil qs) ∙ ap (λ (z : List Piece). qs ++ z) (sym none_left) ∙ all_are in
+      rw (← all) u
 
 -- ---- all fields, one after the other
 

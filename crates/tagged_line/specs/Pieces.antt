@@ -3,7 +3,8 @@
 use Rattle.std.specs.Prelude.{◌≡◌, Bool, true, List, [], ◌∷◌, ◌++◌, ℕ}
 use Rattle.std.proofs.Math.Option.{some}
 use Rattle.fields.specs.Field.{Raw, raws, read_all, all}
-use Rattle.fields.specs.Sheet.{Piece, fragment, read_str, read_piece, readable_piece}
+use Rattle.fields.specs.Sheet.{Piece, fragment, read_str, read_piece, readable_piece, pieces_bytes}
+use Rattle.fields.specs.Store.{Wrote}
 use Rattle.fields.specs.TaggedLine.{add_piece, add_pieces}
 use Rattle.tagged_line.specs.Held.{Held}
 use Rattle.tagged_line.specs.declared.line.Line.{Line}
@@ -34,3 +35,7 @@ abbrev pub AddsPieces : List ℕ → Line → List ℕ → Bool → Bool → Lis
 AddsPieces out p content joins rejoins out' r =
     (ps : List Piece) → PiecesOf content ps → all readable_piece ps ≡ true
     → (st : List ℕ) (l : List Piece) → Held st l out p → Held st (add_pieces joins rejoins l ps) out' r
+
+-- all fields of a content, copied
+abbrev pub Copies : List ℕ → ℕ → List ℕ → List ℕ → ℕ → Type 0
+Copies out place content out' r = (ps : List Piece) → PiecesOf content ps → Wrote out place (pieces_bytes ps) out' r

@@ -1,8 +1,8 @@
 // The pieces of a line's content, read field by field and laid one after the other.
-ghost use Rattle.std.specs.Prelude.{◌+◌, ◌*◌, length};
+ghost use Rattle.std.specs.Prelude.{◌+◌, ◌*◌, ◌^◌, ◌≤◌, ◌<◌, length};
 ghost use Rattle.fields.specs.List.{whole_of};
 ghost use Rattle.tagged_line.specs.Held.{Within, LineGrown};
-ghost use Rattle.tagged_line.specs.Pieces.{AddsFragment, AddsTextPiece, AddsPiece, AddsPieces};
+ghost use Rattle.tagged_line.specs.Pieces.{AddsFragment, AddsTextPiece, AddsPiece, AddsPieces, Copies};
 
 use crate::line::Line;
 use fields::list::Fields;
@@ -12,6 +12,7 @@ use fields::width::text_width;
 
 impl Line {
     // A name: an F field as it stands, after which no piece of text is open.
+    #[inline(always)]
     #[tactic(auto, unfolding(fields::specs::Field::field))]
     fn add_fragment(self, out: &mut [u8], name: Field<'_>) -> Line
         requires { Within self (4 + 2 * length name.content.now) }
@@ -27,6 +28,7 @@ impl Line {
     }
 
     // An S field's text: pushed, or put after the others as it stands. What is no S field's content adds nothing.
+    #[inline(always)]
     #[tactic(auto, unfolding(fields::specs::Field::field))]
     fn add_text_piece(self, out: &mut [u8], piece: Field<'_>, joins: bool) -> Line
         requires { Within self (4 + 3 * length piece.content.now) }
@@ -53,6 +55,7 @@ impl Line {
     }
 
     // One piece of a line: a text, or a name.
+    #[inline(always)]
     pub fn add_piece(self, out: &mut [u8], piece: Field<'_>, joins: bool) -> Line
         requires { Within self (4 + 3 * length piece.content.now) }
         ensures line_grown { LineGrown self result (3 + 3 * length piece.entry.content.now) }
@@ -82,4 +85,19 @@ impl Line {
         }
         line
     }
+}
+
+// The pieces of a line's content, copied as they stand.
+pub fn copy_pieces(out: &mut [u8], place: usize, content: &[u8]) -> usize
+    requires { (place + length content.now < 2 ^ 62) × (length content.now < 65536) }
+    ensures lower_bound { (place ≤ result) × (result ≤ place + length content.now) }
+    ensures copies { Copies out.old place content.now out.new result }
+{
+    let mut to = place;
+    for piece in Fields::new(content) {
+        if let Ok(piece) = piece {
+            to = put_field(out, to, piece.letter, piece.content);
+        }
+    }
+    to
 }
