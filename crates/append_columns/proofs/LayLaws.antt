@@ -4,7 +4,7 @@ use mathlib.Core.Path.{◌≡◌, refl, sym, ap, ap₂, ◌∙◌}
 use mathlib.Core.Bool.{Bool, true, false, not, ◌&&◌}
 use mathlib.Core.Option.{some}
 use mathlib.Core.List.{List, [], ◌∷◌, ◌++◌, map, map-append, append_assoc}
-use Prim.Native.Nat.{ℕ, zero, suc, ◌+◌, ◌^◌, ◌≤◌, ◌<◌}
+use Prim.Native.Nat.{ℕ, zero, suc, ◌+◌, ◌-◌, ◌^◌, ◌≤◌, ◌<◌}
 use native.Mathlib.Omega.{arith}
 use lib.ListN.{length, take, drop, length-append, drop_of_length-le}
 use lib.Seq.{take_all}
@@ -30,7 +30,7 @@ use Rattle.seats.specs.Row.{RowIs, BeginsRow}
 use Rattle.seats.specs.Survey.{PlainSlot, SurveyIs, Surveys}
 use Rattle.seats.specs.declared.row.Row.{Row}
 use Rattle.seats.specs.declared.survey.Surveyed.{Surveyed}
-use Rattle.seats.proofs.PlainLaws.{plain_holes, plain_fits}
+use Rattle.seats.proofs.PlainLaws.{plain_holes, plain_hangs, plain_fits}
 use Rattle.row_fit.specs.Row.{any_hole, RowFit}
 use Rattle.row_holes.specs.Row.{WideSeat}
 use Rattle.row_lines.specs.Full.{AddsRow}
@@ -246,6 +246,17 @@ module _ (o : RenderOptions) (old : OldSheet) (row : Row) (collapse : Bool) (s :
     hangs_start : length old.names.now + length old.hanging.now < 2 ^ 63 → (ls : List RenderLine) (p : Lines)
         → (all_fit ls [] ≡ true → p.at ≤ 2 ^ 44 + length old.names.now) → StartsIn t.overhang ls p
     hangs_start near ls p low = record { near = λ ok. omega (arith, low ok, near, i.old_is.size) }
+
+  -- Of a plain row nothing hangs on.
+  pub adds_plain : (o₁ o₂ o₃ o₄ : List ℕ) (p₁ p₂ p₃ p₄ : Lines) (done : Result ℕ Refusal) (store' : List ℕ) → s.plain ≡ true
+      → AddsOld store old row collapse o₁ p₁ → AddsRow o₁ p₁ old.names.now o row collapse s.height o₂ p₂
+      → AddsBelow o₂ p₂ o row (joined old) collapse s holes o₃ p₃ → HandsNames o₃ p₃ old.names.now s.height o₄ p₄
+      → Closes p₄ o₄ done store' → AddsAll o old row collapse s holes store done store'
+  adds_plain o₁ o₂ o₃ o₄ p₁ p₂ p₃ p₄ done store' p olds rows below hands closes cells t cs i r =
+      let none : all_hangs (row_slots t.overhang cs) ≡ [] = plain_hangs o s.height (full_total t.overhang cs - 1) collapse (row_slots t.overhang cs) (r.surveyed.plain_is p) in
+      closes store _ _ [] (hands t.names i.old_is.names store _ (lines_stand cells t cs i r o₁ o₂ o₃ p₁ p₂ p₃ olds rows below)).emitted
+      ∙ ap (λ (z : Sheet). give (finished z) store)
+      (ap (sheet_of (all_lines t (row_slots t.overhang cs)) (waiting_on s.height t.names)) (sym none) ∙ flat_is cells t cs i r)
 
   -- What hangs on stands behind the lines and the names.
   pub adds_all : (o₁ o₂ o₃ o₄ o₅ : List ℕ) (p₁ p₂ p₃ p₄ p₅ : Lines) (done : Result ℕ Refusal) (store' : List ℕ)

@@ -51,7 +51,7 @@ fn hand_names(out: &mut [u8], lines: Lines, names: &[u8], height: usize) -> Line
     lines
 }
 
-// The old lines, the row's, the border below it, the names that wait on and what hangs on.
+// The old lines, the row's, the border below it, the names that wait on and what hangs on: of a plain row nothing does.
 fn add_all(
     options: RenderOptions,
     old: &OldSheet<'_>,
@@ -89,6 +89,9 @@ fn add_all(
         &mut buffer,
     );
     let tail = hand_names(store, lines, old.names, height);
+    if surveyed.plain {
+        return tail.close(store);
+    }
     let all = hang_on(store, tail, options, row, collapse, height);
     all.close(store)
 }

@@ -1,3 +1,4 @@
 pub mod SeatLaws
 pub mod ReachLaws
 pub mod FitLaws
+pub mod HoleLaws

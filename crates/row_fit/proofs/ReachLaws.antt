@@ -10,6 +10,7 @@ use lib.ListN.{length, replicate, drop, length-replicate}
 use borrow.Author.Tests.{lt-ltb, le-ltb, le-leb, leb-true, leb-false, ltb-true, ltb-false}
 use Rattle.std.proofs.Common.{Option as Maybe, Some, None}
 use Rattle.std.specs.Prelude.{if◌then◌else◌}
+use Rattle.std.specs.Option.{is_some}
 use Rattle.std.proofs.Math.Bool.{or-false}
 use Rattle.characters.proofs.Tests.{same_test}
 use Rattle.fields.specs.Sheet.{Piece}
@@ -207,6 +208,20 @@ holes_any_from o n x (c ∷ cs) h =
     ∙ ap (λ (b : Bool). b || any_hole (holes_of o n z cs)) (ltb_max 0 h t ∙ ap (λ (b : Bool). ltb 0 h || b) (some_hole x ts))
     ∙ or_three (ltb 0 h) (leb 1 (length ts)) (any_hole (holes_of o n z cs))
     ∙ ap (λ (b : Bool). ltb 0 h || b) (sym (any_punched x ts (holes_of o n z cs)) ∙ ap (λ (l : List Hole). any_hole (l ++ holes_of o n z cs)) (sym (column_holes_lem o n x c)))
+
+-- The holes of a column, before those of others.
+some_cols : (ts : List Piece) → is_some (cols_of ts) ≡ leb 1 (length ts)
+some_cols [] = refl
+some_cols (t ∷ ts) = sym (le-leb 1 (length (t ∷ ts)) (omega arith))
+
+pub any_first : (o : RenderOptions) (n x : ℕ) (c : Column) (cs : List Column) (r : Maybe ℕ) → r ≡ cols_of (pieces_below o n c)
+    → any_hole (holes_of o n x (c ∷ cs)) ≡ (is_some r || any_hole (holes_of o n (x + c.width + 1) cs))
+unfolding holes_of
+any_first o n x c cs r e =
+    let ts = pieces_below o n c in
+    let hs = holes_of o n (x + c.width + 1) cs in
+    ap (λ (l : List Hole). any_hole (l ++ hs)) (column_holes_lem o n x c) ∙ any_punched x ts hs
+    ∙ ap (λ (b : Bool). b || any_hole hs) (sym (some_cols ts) ∙ ap (λ (m : Maybe ℕ). is_some m) (sym e))
 
 pub holes_any : (o : RenderOptions) (n : ℕ) (cs : List Column) → ltb 0 (holes_from o n 0 cs 0) ≡ any_hole (holes_of o n 0 cs)
 holes_any o n cs = holes_any_from o n 0 cs 0

@@ -38,7 +38,7 @@ use Rattle.slots.specs.declared.seat.Seat.{Seat}
 use Rattle.slots.specs.Seat.{SeatIs}
 use Rattle.fields.specs.declared.refusal.Refusal.TheVariants.{OverhangMisfit}
 use Rattle.row_fit.specs.declared.reach.SeatFit.{SeatFit}
-use Rattle.row_fit.specs.Seat.{CountsThrough, or_first, last_join, FitsSeat}
+use Rattle.row_fit.specs.Seat.{CountsThrough, CountsSeat, or_first, last_join, FitsSeat}
 use Rattle.seats.proofs.SurveyLaws.{column_span, column_width, column_to}
 
 -- ---- the last border that was taken off
@@ -182,6 +182,14 @@ pub through_broken : (bytes rest : List ℕ) (seat : Seat) (height : ℕ) (r : M
 through_broken bytes rest seat height r f h e o c et ew es ls ok = absurd (h (none_first rest (drop height c.lines) e (f c.lines ls)))
 
 -- ---- one seat
+
+-- The line of a seat that comes where the border is.
+pub seat_counts : (seat : Seat) (collapse : Bool) (height : ℕ) (b : Body) (r : Maybe ℕ) → FindsBody seat.lines.now collapse b → CountsThrough b.lines.now seat height r
+    → CountsSeat seat collapse height r
+seat_counts seat collapse height b r body t o x s =
+    let i = body x s.lines_in in
+    t o (column_of collapse x) (column_to collapse x ∙ s.to_is) (column_width collapse x ∙ s.width_is) (column_span collapse x ∙ s.span_is) i.lines_in
+    (column_readable collapse x s.readable)
 
 -- what is found of a seat's lines
 misfit_of : (seat : Seat) (collapse : Bool) (total height : ℕ) (b : Body) (wide crossed : Bool) → FindsBody seat.lines.now collapse b

@@ -13,6 +13,11 @@ abbrev pub any_hole : {A : Type 0} → List A → Bool
 any_hole [] = false
 any_hole (h ∷ hs) = true
 
+-- `row_has_holes`
+abbrev pub FindsHoles : Row → Bool → ℕ → Bool → Type 0
+FindsHoles row collapse height r =
+    (o : RenderOptions) (xs : List Slot) (full : ℕ) → RowIs row xs full → r ≡ any_hole (holes_of o height 0 (map (column_of collapse) xs))
+
 -- the refusal of some columns over a border, or whether the border has holes
 abbrev pub ColumnsFit : RenderOptions → ℕ → ℕ → List Column → List ℕ → Result Bool Refusal → Type 0
 ColumnsFit o total height cs below (Ok holes) = (row_misfit o total cs below ≡ false) × (holes ≡ any_hole (holes_of o height 0 cs))

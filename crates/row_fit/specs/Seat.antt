@@ -39,6 +39,10 @@ CountsThrough bytes seat height r =
     (o : RenderOptions) (c : Column) → c.to ≡ seat.to → c.width ≡ seat.width → c.span ≡ seat.span → LinesIn bytes c.lines → readable_lines c.lines ≡ true
     → Counts r (pieces_below o height c)
 
+-- `seat_through`
+abbrev pub CountsSeat : Seat → Bool → ℕ → Maybe ℕ → Type 0
+CountsSeat seat collapse height r = (o : RenderOptions) (x : Slot) → SeatIs seat x → Counts r (pieces_below o height (column_of collapse x))
+
 -- ---- one seat
 
 -- how a column meets the border below the row

@@ -1,7 +1,7 @@
 // What one seat has to do with refusal 10.
 ghost use Rattle.std.specs.Prelude.{◌≡◌, ◌&&◌, ◌^◌, ◌<◌, ltb, length, IfSome};
 ghost use Rattle.std.specs.Option.{is_none};
-ghost use Rattle.row_fit.specs.Seat.{last_join, CountsThrough, FitsSeat};
+ghost use Rattle.row_fit.specs.Seat.{last_join, CountsThrough, CountsSeat, FitsSeat};
 
 use crate::reach::SeatFit;
 use bodies::body::{Body, body_of};
@@ -44,6 +44,14 @@ fn through_cols(lines: &[u8], seat: Seat<'_>, height: usize) -> Option<usize>
     }
     let (line, _) = split_field(rest)?;
     line_cols(line, seat.to)
+}
+
+// The columns of the line of a seat that hangs through the border, whether the seat is refused or not.
+pub fn seat_through(seat: Seat<'_>, collapse: bool, height: usize) -> Option<usize>
+    ensures { CountsSeat seat.entry collapse height result }
+{
+    let body = body_of(seat.lines, collapse);
+    through_cols(body.lines, seat, height)
 }
 
 // What one seat has to do with refusal 10, height lines down: it is refused where it is too wide to be filled, or a line of it cannot be

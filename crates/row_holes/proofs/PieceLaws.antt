@@ -119,6 +119,7 @@ pub record CutAhead (f : Filled) (a x : ℕ) (b : BorderHoriz) (whole : List ℕ
 -- of all pieces that were left at first
 pub record Cutting (first : Filled) (pos : ℕ) (b₀ : BorderHoriz) (f : Filled) (x : ℕ) (b : BorderHoriz) : Type 0 where
   pub low : x < 8589934592
+  pub same_buffer : b.buffer.ghost_name ≡ b₀.buffer.ghost_name
   pub room : length b.buffer.now ≡ length b₀.buffer.now
   pub same : (a : ℕ) (qs : List Piece) → PartsLeft first a qs → (pos₀ : ℕ) → Near pos pos₀ → (border : List ℕ) → Keeps b₀ border
       → CutAhead f a x b (cut_all border (punch pos₀ qs))
@@ -127,18 +128,21 @@ pub cut_start : (f : Filled) (pos : ℕ) (b : BorderHoriz) → pos < 8589934592 
 cut_start f pos b low =
     record {
       low = low;
+      same_buffer = refl;
       room = refl;
       same = λ a qs left pos₀ near border keeps. record { more = qs; place = pos₀; border = border; goes = left; near = near; keeps = keeps; cut = refl };
     }
 
 -- ONE PIECE MORE.
 pub cut_on : (first : Filled) (pos : ℕ) (b₀ : BorderHoriz) (f : Filled) (x : ℕ) (b : BorderHoriz) (p : Part) (rest : Filled) (x' : ℕ) (b' : BorderHoriz)
-    → Cutting first pos b₀ f x b → NextPart f (Some p) rest → x' < 8589934592 → Advances x p.cols x' → length b'.buffer.now ≡ length b.buffer.now → Cuts b x x' b'
+    → Cutting first pos b₀ f x b → NextPart f (Some p) rest → x' < 8589934592 → Advances x p.cols x' → b'.buffer.ghost_name ≡ b.buffer.ghost_name
+    → length b'.buffer.now ≡ length b.buffer.now → Cuts b x x' b'
     → Cutting first pos b₀ rest x' b'
 unfolding punch cut_all
-cut_on first pos b₀ f x b p rest x' b' v next low adv room cuts =
+cut_on first pos b₀ f x b p rest x' b' v next low adv same_buffer room cuts =
     record {
       low = low;
+      same_buffer = same_buffer ∙ v.same_buffer;
       room = room ∙ v.room;
       same = λ a qs left pos₀ near border keeps.
           let h = v.same a qs left pos₀ near border keeps in

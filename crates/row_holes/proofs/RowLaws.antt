@@ -99,9 +99,10 @@ pub record CutAhead (o : RenderOptions) (collapse : Bool) (height room : ℕ) (s
   pub keeps : Keeps b border
   pub cut : whole ≡ cut_all border (holes_of o height place (map (column_of collapse) more))
 
--- of all seats that were left at first; the buffers keep their lengths
+-- of all seats that were left at first; the border keeps its buffer, and the buffers their lengths
 pub record Cutting (a : ℕ) (collapse : Bool) (height : ℕ) (first : Seats) (b₀ : BorderHoriz) (laid₀ : List ℕ) (st : Seats) (b : BorderHoriz) (laid : List ℕ) (pos : ℕ) : Type 0 where
   pub low : pos < 8589934592
+  pub same_buffer : b.buffer.ghost_name ≡ b₀.buffer.ghost_name
   pub room : length b.buffer.now ≡ length b₀.buffer.now
   pub laid_room : length laid ≡ length laid₀
   pub same : (o : RenderOptions) → o.annotation ≡ a → (xs : List Slot) (total : ℕ) → SeatsLeft first xs total → Every WideSeat xs
@@ -112,6 +113,7 @@ pub cut_start : (a : ℕ) (collapse : Bool) (height : ℕ) (first : Seats) (b : 
 cut_start a collapse height first b laid =
     record {
       low = omega arith;
+      same_buffer = refl;
       room = refl;
       laid_room = refl;
       same = λ o ea xs total l w s border k. record { more = xs; place = 0; border = border; goes = l; wide = w; short = s; near = inl refl; keeps = k; cut = refl };
@@ -121,11 +123,12 @@ cut_start a collapse height first b laid =
 pub cut_on : (a : ℕ) (collapse : Bool) (height : ℕ) (first : Seats) (b₀ : BorderHoriz) (laid₀ : List ℕ) (st : Seats) (b : BorderHoriz) (laid : List ℕ) (pos : ℕ)
     (seat : Seat) (rest : Seats) (b' : BorderHoriz) (laid' : List ℕ) (pos' : ℕ)
     → Cutting a collapse height first b₀ laid₀ st b laid pos → NextSeat st (Some seat) rest
-    → length b'.buffer.now ≡ length b.buffer.now → length laid' ≡ length laid → CutsSeat b a seat collapse height pos (length laid) b'
+    → b'.buffer.ghost_name ≡ b.buffer.ghost_name → length b'.buffer.now ≡ length b.buffer.now → length laid' ≡ length laid → CutsSeat b a seat collapse height pos (length laid) b'
     → pos' < 8589934592 → Advances pos (seat.width + 1) pos' → Cutting a collapse height first b₀ laid₀ rest b' laid' pos'
-cut_on a collapse height first b₀ laid₀ st b laid pos seat rest b' laid' pos' v next room laid_room cuts low adv =
+cut_on a collapse height first b₀ laid₀ st b laid pos seat rest b' laid' pos' v next same_buffer room laid_room cuts low adv =
     record {
       low = low;
+      same_buffer = same_buffer ∙ v.same_buffer;
       room = room ∙ v.room;
       laid_room = laid_room ∙ v.laid_room;
       same = λ o ea xs total y w s border k. go o ea _ total (v.same o ea xs total y w s border k);

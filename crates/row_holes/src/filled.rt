@@ -64,6 +64,7 @@ impl<'a> Iterator for Filled<'a> {
 
     ghost remaining = { λ f. at_most (filled_measure f) };
 
+    #[inline(always)]
     fn next(&mut self) -> Option<Part<'a>> {
         let Some((field, rest)) = split_field(self.rest) else {
             // Behind all pieces stand the spaces alone: a text of none that takes them in.

@@ -46,6 +46,7 @@ pub fn cut_seat(
     laid: &mut [u8],
 )
     requires { (pos < 8589934592) × (length laid.old ≤ 65538) }
+    ensures same_buffer { border.new.buffer.ghost_name ≡ border.old.buffer.ghost_name }
     ensures room { (length border.new.buffer.now ≡ length border.old.buffer.now) × (length laid.new ≡ length laid.old) }
     ensures cuts_seat { CutsSeat border.old annotation seat.entry collapse height pos (length laid.old) border.new }
 {

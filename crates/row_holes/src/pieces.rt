@@ -34,6 +34,7 @@ pub fn cut_pieces(
     pos: usize,
 )
     requires { (to < 131072) × (pos < 8589934592) }
+    ensures same_buffer { border.new.buffer.ghost_name ≡ border.old.buffer.ghost_name }
     ensures room { length border.new.buffer.now ≡ length border.old.buffer.now }
     ensures cuts_pieces { CutsPieces border.old pieces.now to annotation pos border.new }
 {

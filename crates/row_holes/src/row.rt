@@ -18,6 +18,7 @@ pub fn cut_holes(
     laid: &mut [u8],
 )
     requires { length laid.old ≤ 65538 }
+    ensures same_buffer { border.new.buffer.ghost_name ≡ border.old.buffer.ghost_name }
     ensures room { (length border.new.buffer.now ≡ length border.old.buffer.now) × (length laid.new ≡ length laid.old) }
     ensures cuts_holes { CutsHoles border.old annotation row.now collapse height (length laid.old) border.new }
 {

@@ -27,6 +27,12 @@ Keeps first seats len rest = (xs : List Slot) (total : ℕ) → SlotsLeft first 
 pub keeps_none : (first : Slots) (seats : List Seat) → Keeps first seats 0 first
 keeps_none first seats xs total l = record { ys = []; zs = xs; are = refl; kept_are = tt; ahead = l }
 
+-- A seat that is the cell of another may stand for it.
+pub given_as : (st rest : Slots) (seat kept : Seat) → ((x : Slot) → SeatIs seat x → SeatIs kept x) → NextSlot st (Some seat) rest → NextSlot st (Some kept) rest
+given_as st rest seat kept same n xs total l =
+    let f = n xs total l in
+    record { one = f.one; more = f.more; are = f.are; seat_is = same f.one f.seat_is; goes = f.goes }
+
 -- A seat that is given is kept behind the others.
 pub keeps_more : (first : Slots) (seats : List Seat) (len : ℕ) (st rest : Slots) (seat : Seat) → len < length seats → NextSlot st (Some seat) rest
     → Keeps first seats len st → Keeps first (set seats len seat) (len + 1) rest

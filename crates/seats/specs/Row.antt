@@ -31,6 +31,10 @@ pub record RowLeft (kept : List Seat) (rest : Slots) (xs : List Slot) (total : �
 abbrev pub RowIs : Row → List Slot → ℕ → Type 0
 RowIs row xs total = RowLeft (take row.len row.seats) row.rest xs total
 
+-- `ahead`: the row's seats are those that were ahead
+abbrev pub KeepsAhead : Slots → Row → Type 0
+KeepsAhead first row = (xs : List Slot) (total : ℕ) → SlotsLeft first xs total → RowIs row xs total
+
 -- `new`
 abbrev pub BeginsRow : List ℕ → List ℕ → Row → Type 0
 BeginsRow cells hanging row =

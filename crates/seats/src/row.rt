@@ -25,13 +25,13 @@ pub struct Seats<'r, 'a> {
 
 impl<'a> Row<'a> {
     ghost use Rattle.std.specs.Prelude.{◌≡◌, length};
-    ghost use Rattle.seats.specs.Row.{BeginsRow, KeepsSeats, GivesRest, GivesSeats};
+    ghost use Rattle.seats.specs.Row.{KeepsAhead, BeginsRow, KeepsSeats, GivesRest, GivesSeats};
 
-    // The row of a call's C and K fields, and of a sheet's V fields.
-    pub fn new(cells: &'a [u8], hanging: &'a [u8]) -> Row<'a>
-        ensures { BeginsRow cells.now hanging.now result }
+    // The row of the seats that are ahead of a walk.
+    pub fn ahead(first: Slots<'a>) -> Row<'a>
+        ensures { KeepsAhead first.entry result }
     {
-        let mut rest = Slots::new(cells, hanging);
+        let mut rest = first;
         // Cells of no width, until seats stand there.
         let mut seats = [Seat::filling(0, 1); KEPT];
         for len in 0..KEPT {
@@ -45,6 +45,13 @@ impl<'a> Row<'a> {
             len: KEPT,
             rest,
         }
+    }
+
+    // The row of a call's C and K fields, and of a sheet's V fields.
+    pub fn new(cells: &'a [u8], hanging: &'a [u8]) -> Row<'a>
+        ensures { BeginsRow cells.now hanging.now result }
+    {
+        Row::ahead(Slots::new(cells, hanging))
     }
 
     // The seats that are kept.

@@ -34,7 +34,7 @@ fn split_hanging(bytes: &[u8]) -> Option<(Seat<'_>, &[u8])>
 }
 
 impl<'a> Slots<'a> {
-    ghost use Rattle.std.specs.Prelude.{◌≡◌, List, ℕ, ◌-◌, []};
+    ghost use Rattle.std.specs.Prelude.{◌≡◌, List, ℕ, ◌-◌, [], max};
     ghost use Rattle.rows.specs.Columns.{Slot};
     ghost use Rattle.slots.specs.Iter.{Begins, SlotsLeft, Brings, Gives, PutsBehind};
 
@@ -57,6 +57,7 @@ impl<'a> Slots<'a> {
     // The row's width, once no cell is left.
     pub fn width(&self) -> usize
         ensures upper_bound { result ≤ 65790 }
+        ensures value { result ≡ max self.now.total self.now.pos - 1 }
         ensures width_is { (total : ℕ) → SlotsLeft self.now [] total → result ≡ total - 1 }
     {
         self.total.max(self.pos).saturating_sub(1)

@@ -4,7 +4,7 @@ use Rattle.row_holes.proofs.pieces.cut_pieces.Goals as goal
 
 pub loop-part-preserved : goal.loop-part-preserved
 loop-part-preserved c =
-    cut_on _ _ _ _ _ _ _ _ _ _ c.loop-part.invariant c.in-Some.ensures.steps c.advance-end.ensures.upper_bound c.advance-end.ensures.advances c.cut_for.ensures.room c.cut_for.ensures.cuts
+    cut_on _ _ _ _ _ _ _ _ _ _ c.loop-part.invariant c.in-Some.ensures.steps c.advance-end.ensures.upper_bound c.advance-end.ensures.advances c.cut_for.ensures.same_buffer c.cut_for.ensures.room c.cut_for.ensures.cuts
 
 pub returns-clause-cuts_pieces : goal.returns-clause-cuts_pieces
 returns-clause-cuts_pieces c =

@@ -5,7 +5,7 @@ use Rattle.row_holes.proofs.row.cut_holes.Goals as goal
 pub loop-seat-preserved : goal.loop-seat-preserved
 loop-seat-preserved c =
     let e = c.cut_seat.ensures in
-    cut_on _ _ _ _ _ _ _ _ _ _ c.in-Some.seat _ _ _ _ c.loop-seat.invariant c.in-Some.ensures.steps e.room.0 e.room.1 e.cuts_seat c.advance-pos.ensures.upper_bound c.advance-pos.ensures.advances
+    cut_on _ _ _ _ _ _ _ _ _ _ c.in-Some.seat _ _ _ _ c.loop-seat.invariant c.in-Some.ensures.steps e.same_buffer e.room.0 e.room.1 e.cuts_seat c.advance-pos.ensures.upper_bound c.advance-pos.ensures.advances
 
 pub returns-clause-cuts_holes : goal.returns-clause-cuts_holes
 returns-clause-cuts_holes c =

@@ -4,7 +4,7 @@ use Rattle.row_holes.proofs.TextLaws.{seat_none, seat_spaces, seat_there}
 use Rattle.row_holes.proofs.text.push_seat.Goals as goal
 
 pub returns-then-seat-lt2-clause-pushes_seat : goal.returns-then-seat-lt2-clause-pushes_seat
-returns-then-seat-lt2-clause-pushes_seat c = seat_none c.args.seat _ c.args.out.now _ c.args.line c.args.annotation _ c.args.collapse c.args.height c.args.x c.if-seat-lt2.true
+returns-then-seat-lt2-clause-pushes_seat c = seat_none c.args.seat _ c.args.out.now _ c.args.line c.args.annotation _ c.args.collapse c.args.height c.args.x (omega (arith, c.if-seat-lt2.true))
 
 pub returns-in-None-clause-pushes_seat : goal.returns-in-None-clause-pushes_seat
 returns-in-None-clause-pushes_seat c =

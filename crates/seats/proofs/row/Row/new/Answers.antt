@@ -1,11 +1,6 @@
--- `row::Row::new` meets its contract: a seat that is given is kept behind the others.
+-- `row::Row::new` meets its contract: the row is that of the seats which a walk begins with.
 -- Assumes nothing.
-use Rattle.std.proofs.Common.{◌<◌, length, ◌∙◌, arith, length-set}
-use Rattle.seats.proofs.RowLaws.{keeps_more}
 use Rattle.seats.proofs.row.Row.new.Goals as goal
 
-pub loop-len-preserved : goal.loop-len-preserved
-loop-len-preserved c =
-    let (size, few, keeps) = c.loop-len.invariant in
-    let low : c.loop-len.len < length c.loop-len.seats = omega (arith, size, c.loop-len-test.true) in
-    (length-set _ _ _ ∙ size, omega (arith, c.loop-len-test.true), keeps_more c.new-rest.result _ _ c.loop-len.rest c.next.new.self c.in-Some.seat low c.in-Some.ensures.steps keeps)
+pub returns : goal.returns
+returns c = λ cs vs i few readable hung hung_readable. c.ahead.ensures _ _ (c.new.ensures cs vs i few readable hung hung_readable)
