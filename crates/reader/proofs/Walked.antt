@@ -23,7 +23,8 @@ use Rattle.fields.proofs.Readings.{read_first, read_none}
 use Rattle.fields.specs.Spans as spans
 use Rattle.fields.specs.Spans.{Hole, hole, RenderLine, Hanging, hanging, Sheet, sheet_of, RawHole, punched, torn, raw_holes_f, raw_holes, read_hole, read_holes, ends_within, holed, read_holed, read_border, is_span, read_hanging_content, before_hanging, from_hanging, before_names, from_names, parts, counted, read_parts, read_headed, read_sheet}
 use Rattle.fields.specs.declared.raw.Broken.{Broken}
-use Rattle.reader.specs.Reading.{Reading, SeenLine, items, items_size, size_then, field_size, text, border, holes, item_then, seen, piece_of, read_piece, read_line, in_cell, read_cell_line, read_name, read_hanging, from_lines, lines_end, names_end, whole_line, whole_hanging, walked, WalksBack}
+use Rattle.reader.proofs.Places.{cell_line}
+use Rattle.reader.specs.Reading.{Reading, SeenLine, items, items_size, size_then, field_size, text, border, holes, item_then, seen, piece_of, read_piece, read_line, read_cell_line, read_name, read_hanging, from_lines, lines_end, names_end, whole_line, whole_hanging, walked, WalksBack}
 
 -- ---- a list that is read
 
@@ -197,7 +198,8 @@ line_good l c r e = go (eqb l 0x4C) refl (eqb l 0x42) refl (eqb l 0x47) refl e
 -- The lines of a hanging cell.
 cell_lines_back : (rs : List Raw) (ls : List RenderLine) → read_all spans.read_line rs ≡ some ls → items read_cell_line rs ≡ map (λ l. Ok (whole_line l)) ls
 unfolding spans.read_line
-cell_lines_back rs ls e = items_back spans.read_line read_cell_line whole_line refl (λ l c r e. ap (λ (x : rust.Option (rust.Result SeenLine Broken)). Some (in_cell x)) (line_good l c r e)) rs ls e
+cell_lines_back rs ls e =
+    items_back spans.read_line read_cell_line whole_line refl (λ l c r e. cell_line l c (Ok (whole_line r)) (line_good l c r e)) rs ls e
 
 -- what stands behind the lines of a list of fields: the names, then the hanging cells
 record Behind (rs : List Raw) : Type 0 where

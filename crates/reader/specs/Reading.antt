@@ -161,14 +161,31 @@ holes [] = []
 holes (torn ∷ rs) = not_one ∷ []
 holes (punched column r ∷ rs) = item_then (Some (hole_of column r)) (holes rs)
 
+-- the bytes of the first hole, if there is one: a column and a field
+unfoldable pub first_hole_size : List RawHole → ℕ
+first_hole_size [] = 0
+first_hole_size (torn ∷ rs) = 0
+first_hole_size (punched column broken ∷ rs) = 0
+first_hole_size (punched column (whole l c) ∷ rs) = size_then (Some (hole_of column (whole l c))) (2 + field_size l c)
+
+-- the holes from a walk's place on
+abbrev pub holes_ahead : Holes → List RawHole
+holes_ahead w = raw_holes (drop w.at w.bytes.now)
+
 -- what a walk over holes still gives
 abbrev pub holes_left : Holes → List (Result spans.Hole Broken)
-holes_left w = if w.is_over then [] else holes (raw_holes (drop w.at w.bytes.now))
+holes_left w = if w.is_over then [] else holes (holes_ahead w)
 
--- what is read at a place of a border
+-- where a walk over holes stands behind the next one
+abbrev pub next_hole_place : Holes → ℕ
+next_hole_place w = if w.is_over then w.at else w.at + first_hole_size (holes_ahead w)
+
+-- what is read at a place of a border: a hole, and the place where the next one stands
 abbrev pub ReadsHole : List ℕ → ℕ → Result (Hole × ℕ) Broken → Type 0
 ReadsHole s at r =
-    MatchResult r (λ p. holes (raw_holes (drop at s)) ≡ Ok (hole_seen p.0) ∷ holes (raw_holes (drop p.1 s))) (λ e. holes (raw_holes (drop at s)) ≡ not_one ∷ [])
+    MatchResult r
+    (λ p. (holes (raw_holes (drop at s)) ≡ Ok (hole_seen p.0) ∷ holes (raw_holes (drop p.1 s))) × (p.1 ≡ at + first_hole_size (raw_holes (drop at s))))
+    (λ e. (holes (raw_holes (drop at s)) ≡ not_one ∷ []) × (first_hole_size (raw_holes (drop at s)) ≡ 0))
 
 -- ---- lines
 
@@ -211,14 +228,14 @@ read_line l c =
 abbrev pub cell_line_seen : CellLine → SeenLine
 cell_line_seen l = line_seen l.0
 
--- a line as it stands in a hanging cell, on which no names wait and from which no cells hang
+-- a line as it stands in a hanging cell, on which no names wait
 abbrev pub in_cell : Option (Result SeenLine Broken) → Result SeenLine Broken
 in_cell None = not_one
 in_cell (Some r) = r
 
--- a field as a line of a hanging cell, whose lines go on to its end
+-- a field as a line of a hanging cell; at a V the lines are over
 abbrev pub read_cell_line : Reading SeenLine
-read_cell_line l c = Some (in_cell (read_line l c))
+read_cell_line l c = if eqb l 0x56 then None else Some (in_cell (read_line l c))
 
 -- ---- names that wait
 

@@ -6,7 +6,7 @@ use crate::line::CellLines;
 use crate::walk::{Broken, FromField, Walk};
 
 // A hanging cell: its position, its width, the rows left to it, and its lines.
-#[derive(Clone, Debug, Drop)]
+#[derive(Clone, Copy, Debug, Drop)]
 pub struct Hanging<'a> {
     pub position: u16,
     pub width: u8,

@@ -1,8 +1,8 @@
 // The holes of a border.
-ghost use Rattle.std.specs.Prelude.{◌≡◌, ◌<◌, [], drop, length};
+ghost use Rattle.std.specs.Prelude.{◌≡◌, ◌≤◌, ◌<◌, [], MatchResult, IfOk, drop, length, take, false};
 ghost use Rattle.std.specs.Iterator.{YieldsFirstBy, item_count};
 ghost use Rattle.fields.specs.Spans.{raw_holes};
-ghost use Rattle.reader.specs.Reading.{hole_seen, holes, holes_left, seen, ReadsHole};
+ghost use Rattle.reader.specs.Reading.{hole_seen, holes, holes_left, next_hole_place, seen, ReadsHole};
 
 use crate::piece::Piece;
 use crate::walk::{Broken, find};
@@ -15,7 +15,7 @@ pub struct Hole<'a> {
 }
 
 // The hole at a place, and the place where the next one stands.
-#[tactic(auto, using(crate::proofs::Places::hole_short, crate::proofs::Places::hole_bare, crate::proofs::Places::hole_broken, crate::proofs::Places::hole_no_piece, crate::proofs::Places::hole_in))]
+#[tactic(auto, using(crate::proofs::Places::hole_short, crate::proofs::Places::no_hole_short, crate::proofs::Places::hole_bare, crate::proofs::Places::no_hole_bare, crate::proofs::Places::hole_broken, crate::proofs::Places::no_hole_broken, crate::proofs::Places::hole_no_piece, crate::proofs::Places::no_hole_piece, crate::proofs::Places::hole_in, crate::proofs::Places::hole_next))]
 fn read_at<'a>(bytes: &'a [u8], at: usize) -> Result<(Hole<'a>, usize), Broken>
     requires { at < length bytes.now }
     ensures { ReadsHole bytes.now at result }
@@ -33,7 +33,7 @@ fn read_at<'a>(bytes: &'a [u8], at: usize) -> Result<(Hole<'a>, usize), Broken>
 }
 
 // The holes of a border. Behind what is broken it gives nothing more. A column stands before a hole's field, so a hole is no `FromField`, and this is no `Walk`.
-#[derive(Clone, Debug, Drop)]
+#[derive(Clone, Copy, Debug, Drop)]
 pub struct Holes<'a> {
     bytes: &'a [u8],
     at: usize,
@@ -54,7 +54,10 @@ impl<'a> Holes<'a> {
 
     // A walk over all holes from a place on.
     pub fn new(bytes: &'a [u8], at: usize) -> Self
-        ensures { holes_left result ≡ holes (raw_holes (drop at bytes.now)) }
+        ensures gives { holes_left result ≡ holes (raw_holes (drop at bytes.now)) }
+        ensures bytes { result.bytes ≡ bytes.entry }
+        ensures place { result.at ≡ at }
+        ensures fresh { result.is_over ≡ false }
     {
         Holes {
             bytes,
@@ -62,17 +65,35 @@ impl<'a> Holes<'a> {
             is_over: false,
         }
     }
-}
 
-impl<'a> Iterator for Holes<'a> {
-    type Item = Result<Hole<'a>, Broken>;
+    // A walk over all holes from a place on and before an end, which may be past the bytes: that is broken.
+    pub fn within(bytes: &'a [u8], at: usize, end: usize) -> Result<Self, Broken>
+        ensures gives { IfOk result (λ walk. holes_left walk ≡ holes (raw_holes (drop at (take end bytes.now)))) }
+        ensures bytes { IfOk result (λ walk. walk.bytes.now ≡ take end bytes.now) }
+        ensures place { IfOk result (λ walk. walk.at ≡ at) }
+        ensures fresh { IfOk result (λ walk. walk.is_over ≡ false) }
+        ensures inside { MatchResult result (λ walk. end ≤ length bytes.now) (λ broken. length bytes.now < end) }
+    {
+        if bytes.len() < end {
+            return Err(Broken);
+        }
+        Ok(Self::new(&bytes[..end], at))
+    }
 
-    ghost next_gives = { YieldsFirstBy (seen hole_seen) holes_left };
+    // The place where the next hole stands.
+    pub fn place(&self) -> usize
+        ensures { result ≡ self.now.at }
+    {
+        self.at
+    }
 
-    ghost remaining = { item_count holes_left };
-
-    #[tactic(auto, using(crate::proofs::Places::holes_over))]
-    fn next(&mut self) -> Option<Result<Hole<'a>, Broken>> {
+    // The next hole, which is what the iterator gives; the walk goes on behind it, and stays at what is broken.
+    #[tactic(auto, using(crate::proofs::Places::holes_over, crate::proofs::Places::no_hole_over))]
+    pub fn step(&mut self) -> Option<Result<Hole<'a>, Broken>>
+        ensures gives { YieldsFirstBy (seen hole_seen) holes_left self.old result self.new }
+        ensures bytes { self.new.bytes ≡ self.old.bytes }
+        ensures place { self.new.at ≡ next_hole_place self.old }
+    {
         if self.is_over || self.bytes.len() <= self.at {
             return None;
         }
@@ -86,5 +107,17 @@ impl<'a> Iterator for Holes<'a> {
                 Some(Err(broken))
             }
         }
+    }
+}
+
+impl<'a> Iterator for Holes<'a> {
+    type Item = Result<Hole<'a>, Broken>;
+
+    ghost next_gives = { YieldsFirstBy (seen hole_seen) holes_left };
+
+    ghost remaining = { item_count holes_left };
+
+    fn next(&mut self) -> Option<Result<Hole<'a>, Broken>> {
+        self.step()
     }
 }

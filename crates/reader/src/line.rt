@@ -7,7 +7,7 @@ use crate::piece::Pieces;
 use crate::walk::{Broken, FromField, Walk};
 
 // A line: a text, or a border with its annotation, its segments and its holes.
-#[derive(Clone, Debug, Drop)]
+#[derive(Clone, Copy, Debug, Drop)]
 pub enum Line<'a> {
     Text(Pieces<'a>),
     Border {
@@ -72,11 +72,11 @@ impl<'a> FromField<'a> for Line<'a> {
     }
 }
 
-// A line of a hanging cell, where no names wait and no cells hang.
-#[derive(Clone, Debug, Drop)]
+// A line of a hanging cell, where no names wait.
+#[derive(Clone, Copy, Debug, Drop)]
 pub struct CellLine<'a>(pub Line<'a>);
 
-// The lines of a hanging cell, which go on to its end.
+// The lines of a hanging cell. They are over at its end, and at a hanging cell in it, where bytes are left.
 pub type CellLines<'a> = Walk<'a, CellLine<'a>>;
 
 impl<'a> FromField<'a> for CellLine<'a> {
@@ -89,6 +89,7 @@ impl<'a> FromField<'a> for CellLine<'a> {
     fn from_field(letter: u8, content: &'a [u8]) -> Option<Result<Self, Broken>> {
         match Line::from_field(letter, content) {
             Some(Ok(line)) => Some(Ok(CellLine(line))),
+            None if letter == b'V' => None,
             _ => Some(Err(Broken)),
         }
     }

@@ -1,5 +1,5 @@
 // Walks over the fields of a sheet, of a line, of a border or of a hanging cell: one iterator for all that is read from fields.
-ghost use Rattle.std.specs.Prelude.{◌≡◌, ◌+◌, ℕ, List, Option, Result, drop, length, false};
+ghost use Rattle.std.specs.Prelude.{◌≡◌, ◌+◌, ◌≤◌, ◌<◌, ℕ, List, Option, Result, MatchResult, IfOk, drop, length, take, false};
 ghost use Rattle.std.specs.Iterator.{YieldsFirstBy, item_count};
 ghost use Rattle.fields.specs.Field.{raws};
 ghost use Rattle.fields.specs.declared.raw.Broken.{Broken};
@@ -65,7 +65,7 @@ fn read_at<'a, T: FromField<'a>>(bytes: &'a [u8], at: usize) -> Option<Result<(T
 }
 
 // The fields of a byte list from a place on, each read as a `T`. Behind what is broken it gives nothing more, and stays at its place.
-#[derive(Clone, Debug, Drop)]
+#[derive(Clone, Copy, Debug, Drop)]
 pub struct Walk<'a, T> {
     bytes: &'a [u8],
     at: usize,
@@ -87,6 +87,20 @@ impl<'a, T: FromField<'a>> Walk<'a, T> {
             is_over: false,
             kind: PhantomData,
         }
+    }
+
+    // A walk over all fields from a place on and before an end, which may be past the bytes: that is broken.
+    pub fn within(bytes: &'a [u8], at: usize, end: usize) -> Result<Self, Broken>
+        ensures gives { IfOk result (λ walk. left T.read walk ≡ items T.read (raws (drop at (take end bytes.now)))) }
+        ensures bytes { IfOk result (λ walk. walk.bytes.now ≡ take end bytes.now) }
+        ensures place { IfOk result (λ walk. walk.at ≡ at) }
+        ensures fresh { IfOk result (λ walk. walk.is_over ≡ false) }
+        ensures inside { MatchResult result (λ walk. end ≤ length bytes.now) (λ broken. length bytes.now < end) }
+    {
+        if bytes.len() < end {
+            return Err(Broken);
+        }
+        Ok(Self::new(&bytes[..end], at))
     }
 
     // The place where the next item stands.

@@ -92,7 +92,7 @@ fn show_holes(out: &Stdout, holes: Holes<'_>) -> Result<(), Failure> {
     Ok(())
 }
 
-// Writes a line, whose end is written too where what stands on it is broken.
+// Writes a line, whose end is written too where what stands on it is broken; where writing fails, nothing more is written.
 fn show_line(out: &Stdout, line: Line<'_>) -> Result<(), Failure> {
     let shown = match line {
         Line::Text(pieces) => {
@@ -108,8 +108,13 @@ fn show_line(out: &Stdout, line: Line<'_>) -> Result<(), Failure> {
             show_holes(out, holes)
         }
     };
-    println!(out; "")?;
-    shown
+    match shown {
+        Err(Failure::Output(error)) => Err(Failure::Output(error)),
+        shown => {
+            println!(out; "")?;
+            shown
+        }
+    }
 }
 
 // Writes as many lines as a sheet's head says, and answers the bytes behind them: a `for` over the lines would take the walk, whose place is asked for then.
@@ -137,16 +142,20 @@ fn show_names<'a>(out: &Stdout, mut names: Names<'a>) -> io::Result<&'a [u8]>
     Ok(names.rest())
 }
 
-// Writes a hanging cell: its position, its width and the rows left to it, and its lines.
+// Writes a hanging cell: its position, its width and the rows left to it, and its lines, which reach its end.
 fn show_hanging(out: &Stdout, cell: Hanging<'_>) -> Result<(), Failure> {
     println!(out;
         "hanging at {}, width {}, rows left {}",
         cell.position, cell.width, cell.rows
     )?;
-    for line in cell.lines {
+    let mut lines = cell.lines;
+    while let Some(line) = lines.step() {
         let CellLine(line) = line?;
         print!(out; "  ")?;
         show_line(out, line)?;
+    }
+    if !lines.rest().is_empty() {
+        return Err(Failure::Sheet(Broken));
     }
     Ok(())
 }
