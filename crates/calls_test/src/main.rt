@@ -176,6 +176,15 @@ fn read_further<'a>(
     Ok(&[])
 }
 
+// An input, or none where it cannot be read whole: the inputs behind it are read all the same.
+fn whole<'a>(input: Result<&'a [u8], Failure>) -> io::Result<Option<&'a [u8]>> {
+    match input {
+        Ok(input) => Ok(Some(input)),
+        Err(Failure::Io(error)) => Err(error),
+        Err(_) => Ok(None),
+    }
+}
+
 // Reads what stands between a record's inputs and its sheet.
 fn read_answer(from: &mut Stdin) -> Result<Answer, Failure> {
     let mut bytes = [0u8; 8];
@@ -272,9 +281,12 @@ fn replay(
     let Some(call) = read_call(from)? else {
         return Ok(None);
     };
-    let first = read_input(from, firsts)?;
-    let second = read_further(from, call.kind != Kind::Job, seconds)?;
-    let third = read_further(from, call.kind == Kind::Subrender, thirds)?;
+    let first = whole(read_input(from, firsts))?;
+    let second = whole(read_further(from, call.kind != Kind::Job, seconds))?;
+    let third = whole(read_further(from, call.kind == Kind::Subrender, thirds))?;
+    let (Some(first), Some(second), Some(third)) = (first, second, third) else {
+        return Err(Failure::Unread);
+    };
     let inputs = Inputs {
         first,
         second,

@@ -17,8 +17,7 @@ fn main(rt: HostRuntime) -> io::Result<()> {
     let mut text = [0u8; 65536];
     let n = read_full(&mut rt.stdin(), &mut text)?;
     let out = rt.stdout();
-    // Data that is no text has no runs, and most answers differ.
-    let mut differences = points::compare(&out, str::from_utf8(&text[..n]).unwrap_or(""))?;
+    let mut differences = points::compare(&out, &text[..n])?;
     differences += encoding::compare(&out)?;
     differences += strings::compare(&out)?;
     println!(out; "differences: {differences}")

@@ -1,5 +1,5 @@
 // The columns and the white space of every code point, compared with the data.
-use crate::data::{Class, END, Run};
+use crate::data::{Class, END, Run, after_comments};
 use characters::columns::{Columns, columns_of};
 use characters::whitespace::{always_takes_space, is_whitespace, is_wordbreak_point};
 use std::io::Stdout;
@@ -92,15 +92,18 @@ fn white_agrees(code: u32, white: bool) -> bool {
 }
 
 // Walks all code points, writes the counts and answers the number of differences.
-pub fn compare(out: &Stdout, text: &str) -> io::Result<Wrapping<u32>> {
-    let mut runs = text.lines().filter_map(Run::of_line).peekable();
+pub fn compare(out: &Stdout, text: &[u8]) -> io::Result<Wrapping<u32>> {
+    let mut next = Run::split(after_comments(text));
     let mut run_count = Wrapping(0u32);
     let mut class = Class::default();
     let mut seen = Seen::default();
     for code in 0..END {
-        if let Some(run) = runs.next_if(|run| run.first == code) {
+        if let Some((run, rest)) = next
+            && run.first == code
+        {
             class = run.class;
             run_count += 1;
+            next = Run::split(rest);
         }
         seen.count(out, code, class)?;
     }
