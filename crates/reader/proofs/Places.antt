@@ -23,7 +23,7 @@ use Rattle.fields.specs.declared.raw.Broken.{Broken}
 use Rattle.reader.specs.declared.walk.Found.{Found}
 use Rattle.reader.specs.declared.walk.Walk.{Walk}
 use Rattle.reader.specs.declared.hole.Holes.{Holes}
-use Rattle.reader.specs.Reading.{Reading, not_one, item_then, items, first_size, items_size, size_then, field_size, FieldIn, ItemIn, ahead, left, next_place, end_place, seen, piece_of, holes, first_hole_size, holes_ahead, holes_left, next_hole_place, SeenLine, read_line, in_cell, read_cell_line}
+use Rattle.reader.specs.Reading.{Reading, not_one, item_then, items, first_size, items_size, size_then, field_size, FieldIn, ItemIn, ahead, left, next_place, end_place, seen, piece_of, hole_of, holes, first_hole_size, holes_ahead, holes_left, next_hole_place, SeenLine, read_line, in_cell, read_cell_line}
 
 -- Behind the list no field is left.
 pub nothing_left : (s : List ℕ) (at : ℕ) → length s ≤ at → raws (drop at s) ≡ []
@@ -255,6 +255,18 @@ no_field e = let z : ◌≡◌ {A = ℕ} 0 1 = cc in omega arith
 abbrev pub column_at : ℕ → List ℕ → ℕ
 column_at at s = get_or s at 0 * 256 + get_or s (at + 1) 0
 
+-- What is broken has no bytes of a hole.
+pub no_hole : (rs : List RawHole) → holes rs ≡ not_one ∷ [] → first_hole_size rs ≡ 0
+unfolding holes first_hole_size
+no_hole [] e = refl
+no_hole (torn ∷ rs) e = refl
+no_hole (punched column broken ∷ rs) e = refl
+no_hole (punched column (whole l c) ∷ rs) e = there (hole_of column (whole l c)) e
+  where
+    there : (r : Result spans.Hole Broken) → item_then (Some r) (holes rs) ≡ not_one ∷ [] → size_then (Some r) (2 + field_size l c) ≡ 0
+    there (Err x) e = refl
+    there (Ok h) e = absurd (other_item (sym e))
+
 module _ (s : List ℕ) (at : ℕ) where
   -- Behind the list.
   pub holes_over : length s ≤ at → holes (raw_holes (drop at s)) ≡ []
@@ -271,11 +283,6 @@ module _ (s : List ℕ) (at : ℕ) where
   unfolding holes
   hole_short h k = rw (one_torn (drop at s) (omega (arith, length-drop at s)) (omega (arith, length-drop at s)))
 
-  -- There no bytes are a hole's.
-  pub no_hole_short : at < length s → length s - at < 2 → first_hole_size (raw_holes (drop at s)) ≡ 0
-  unfolding first_hole_size
-  no_hole_short h k = rw (one_torn (drop at s) (omega (arith, length-drop at s)) (omega (arith, length-drop at s)))
-
   -- The bytes from a place on, two bytes and those behind them.
   two_left : 2 ≤ length s - at → drop at s ≡ get_or s at 0 ∷ get_or s (at + 1) 0 ∷ drop (at + 2) s
   two_left h =
@@ -288,20 +295,10 @@ module _ (s : List ℕ) (at : ℕ) where
   unfolding holes
   hole_broken h e = rw (two_left h, hole_torn _ _ (drop (at + 2) s) (λ l c rs k. no_whole (sym e ∙ k)))
 
-  -- There no bytes are a hole's.
-  pub no_hole_broken : 2 ≤ length s - at → raws (drop (at + 2) s) ≡ broken ∷ [] → first_hole_size (raw_holes (drop at s)) ≡ 0
-  unfolding first_hole_size
-  no_hole_broken h e = rw (two_left h, hole_torn _ _ (drop (at + 2) s) (λ l c rs k. no_whole (sym e ∙ k)))
-
   -- Nothing behind the column.
   pub hole_bare : 2 ≤ length s - at → raws (drop (at + 2) s) ≡ [] → holes (raw_holes (drop at s)) ≡ not_one ∷ []
   unfolding holes
   hole_bare h e = rw (two_left h, hole_torn _ _ (drop (at + 2) s) (λ l c rs k. no_field (sym e ∙ k)))
-
-  -- There no bytes are a hole's.
-  pub no_hole_bare : 2 ≤ length s - at → raws (drop (at + 2) s) ≡ [] → first_hole_size (raw_holes (drop at s)) ≡ 0
-  unfolding first_hole_size
-  no_hole_bare h e = rw (two_left h, hole_torn _ _ (drop (at + 2) s) (λ l c rs k. no_field (sym e ∙ k)))
 
   module _ (f : Found) (h : 2 ≤ length s - at) (k : FieldIn s (at + 2) f) where
     -- A field behind the column.
@@ -327,11 +324,6 @@ module _ (s : List ℕ) (at : ℕ) where
     pub hole_no_piece : (e : Broken) → piece_of f.letter f.content.now ≡ Err e → holes (raw_holes (drop at s)) ≡ not_one ∷ []
     unfolding holes
     hole_no_piece e z = rw (raw_there, z)
-
-    -- There no bytes are a hole's.
-    pub no_hole_piece : (e : Broken) → piece_of f.letter f.content.now ≡ Err e → first_hole_size (raw_holes (drop at s)) ≡ 0
-    unfolding first_hole_size
-    no_hole_piece e z = rw (raw_there, z)
 
 -- ---- where a walk over holes stands
 

@@ -185,7 +185,7 @@ abbrev pub ReadsHole : List ℕ → ℕ → Result (Hole × ℕ) Broken → Type
 ReadsHole s at r =
     MatchResult r
     (λ p. (holes (raw_holes (drop at s)) ≡ Ok (hole_seen p.0) ∷ holes (raw_holes (drop p.1 s))) × (p.1 ≡ at + first_hole_size (raw_holes (drop at s))))
-    (λ e. (holes (raw_holes (drop at s)) ≡ not_one ∷ []) × (first_hole_size (raw_holes (drop at s)) ≡ 0))
+    (λ e. holes (raw_holes (drop at s)) ≡ not_one ∷ [])
 
 -- ---- lines
 

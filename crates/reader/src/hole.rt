@@ -1,5 +1,5 @@
 // The holes of a border.
-ghost use Rattle.std.specs.Prelude.{◌≡◌, ◌≤◌, ◌<◌, [], MatchResult, IfOk, drop, length, take, false};
+ghost use Rattle.std.specs.Prelude.{◌≡◌, ◌<◌, [], drop, length, false};
 ghost use Rattle.std.specs.Iterator.{YieldsFirstBy, item_count};
 ghost use Rattle.fields.specs.Spans.{raw_holes};
 ghost use Rattle.reader.specs.Reading.{hole_seen, holes, holes_left, next_hole_place, seen, ReadsHole};
@@ -15,7 +15,7 @@ pub struct Hole<'a> {
 }
 
 // The hole at a place, and the place where the next one stands.
-#[tactic(auto, using(crate::proofs::Places::hole_short, crate::proofs::Places::no_hole_short, crate::proofs::Places::hole_bare, crate::proofs::Places::no_hole_bare, crate::proofs::Places::hole_broken, crate::proofs::Places::no_hole_broken, crate::proofs::Places::hole_no_piece, crate::proofs::Places::no_hole_piece, crate::proofs::Places::hole_in, crate::proofs::Places::hole_next))]
+#[tactic(auto, using(crate::proofs::Places::hole_short, crate::proofs::Places::hole_bare, crate::proofs::Places::hole_broken, crate::proofs::Places::hole_no_piece, crate::proofs::Places::hole_in, crate::proofs::Places::hole_next))]
 fn read_at<'a>(bytes: &'a [u8], at: usize) -> Result<(Hole<'a>, usize), Broken>
     requires { at < length bytes.now }
     ensures { ReadsHole bytes.now at result }
@@ -66,20 +66,6 @@ impl<'a> Holes<'a> {
         }
     }
 
-    // A walk over all holes from a place on and before an end, which may be past the bytes: that is broken.
-    pub fn within(bytes: &'a [u8], at: usize, end: usize) -> Result<Self, Broken>
-        ensures gives { IfOk result (λ walk. holes_left walk ≡ holes (raw_holes (drop at (take end bytes.now)))) }
-        ensures bytes { IfOk result (λ walk. walk.bytes.now ≡ take end bytes.now) }
-        ensures place { IfOk result (λ walk. walk.at ≡ at) }
-        ensures fresh { IfOk result (λ walk. walk.is_over ≡ false) }
-        ensures inside { MatchResult result (λ walk. end ≤ length bytes.now) (λ broken. length bytes.now < end) }
-    {
-        if bytes.len() < end {
-            return Err(Broken);
-        }
-        Ok(Self::new(&bytes[..end], at))
-    }
-
     // The place where the next hole stands.
     pub fn place(&self) -> usize
         ensures { result ≡ self.now.at }
@@ -88,7 +74,7 @@ impl<'a> Holes<'a> {
     }
 
     // The next hole, which is what the iterator gives; the walk goes on behind it, and stays at what is broken.
-    #[tactic(auto, using(crate::proofs::Places::holes_over, crate::proofs::Places::no_hole_over))]
+    #[tactic(auto, using(crate::proofs::Places::holes_over, crate::proofs::Places::no_hole_over, crate::proofs::Places::no_hole))]
     pub fn step(&mut self) -> Option<Result<Hole<'a>, Broken>>
         ensures gives { YieldsFirstBy (seen hole_seen) holes_left self.old result self.new }
         ensures bytes { self.new.bytes ≡ self.old.bytes }

@@ -50,6 +50,17 @@ pub(crate) fn find<'a>(bytes: &'a [u8], at: usize) -> Option<Result<Found<'a>, B
     }))
 }
 
+// The bytes before an end, which may be past them: that is broken. A walk over them goes no further.
+pub fn before<'a>(bytes: &'a [u8], end: usize) -> Result<&'a [u8], Broken>
+    ensures part { IfOk result (λ part. part.now ≡ take end bytes.now) }
+    ensures inside { MatchResult result (λ part. end ≤ length bytes.now) (λ broken. length bytes.now < end) }
+{
+    if bytes.len() < end {
+        return Err(Broken);
+    }
+    Ok(&bytes[..end])
+}
+
 // The item at a place, and the place where the next one stands.
 #[tactic(auto, using(crate::proofs::Places::none_in, crate::proofs::Places::end_over))]
 fn read_at<'a, T: FromField<'a>>(bytes: &'a [u8], at: usize) -> Option<Result<(T, usize), Broken>>
@@ -87,20 +98,6 @@ impl<'a, T: FromField<'a>> Walk<'a, T> {
             is_over: false,
             kind: PhantomData,
         }
-    }
-
-    // A walk over all fields from a place on and before an end, which may be past the bytes: that is broken.
-    pub fn within(bytes: &'a [u8], at: usize, end: usize) -> Result<Self, Broken>
-        ensures gives { IfOk result (λ walk. left T.read walk ≡ items T.read (raws (drop at (take end bytes.now)))) }
-        ensures bytes { IfOk result (λ walk. walk.bytes.now ≡ take end bytes.now) }
-        ensures place { IfOk result (λ walk. walk.at ≡ at) }
-        ensures fresh { IfOk result (λ walk. walk.is_over ≡ false) }
-        ensures inside { MatchResult result (λ walk. end ≤ length bytes.now) (λ broken. length bytes.now < end) }
-    {
-        if bytes.len() < end {
-            return Err(Broken);
-        }
-        Ok(Self::new(&bytes[..end], at))
     }
 
     // The place where the next item stands.
