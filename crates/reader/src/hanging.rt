@@ -1,17 +1,34 @@
 // The hanging cells of a sheet.
-ghost use Rattle.std.specs.Prelude.{◌≡◌};
+ghost use Rattle.std.specs.Prelude.{◌≡◌, ⊤};
 ghost use Rattle.reader.specs.Reading.{SeenHanging, hanging_seen, read_hanging};
 
 use crate::line::CellLines;
 use crate::walk::{Broken, FromField, Walk};
+use std::alloc::AllocError;
 
 // A hanging cell: its position, its width, the rows left to it, and its lines.
-#[derive(Clone, Copy, Debug, Drop)]
+#[derive(Copy, Debug, Drop)]
 pub struct Hanging<'a> {
     pub position: u16,
     pub width: u8,
     pub rows: u8,
     pub lines: CellLines<'a>,
+}
+
+// By hand, as that of a `Line`.
+impl<'a> Clone for Hanging<'a> {
+    ghost is_clone = { λ a b. b ≡ a };
+
+    ghost is_infallible = { λ _. ⊤ };
+
+    fn clone(&self) -> Result<Self, AllocError> {
+        Ok(Hanging {
+            position: self.position,
+            width: self.width,
+            rows: self.rows,
+            lines: self.lines.clone()?,
+        })
+    }
 }
 
 // The hanging cells of a sheet.

@@ -8,5 +8,7 @@ pub mod hole;
 pub mod line;
 pub mod piece;
 pub mod reader;
+#[cfg(test)]
+mod tests;
 pub mod waiting;
 pub mod walk;

@@ -1,13 +1,14 @@
 // The lines of a sheet and of a hanging cell.
-ghost use Rattle.std.specs.Prelude.{◌≡◌};
+ghost use Rattle.std.specs.Prelude.{◌≡◌, ⊤};
 ghost use Rattle.reader.specs.Reading.{SeenLine, line_seen, read_line, cell_line_seen, read_cell_line, plain_border, holed_border, seen};
 
 use crate::hole::Holes;
 use crate::piece::Pieces;
 use crate::walk::{Broken, FromField, Walk};
+use std::alloc::AllocError;
 
 // A line: a text, or a border with its annotation, its segments and its holes.
-#[derive(Clone, Copy, Debug, Drop)]
+#[derive(Copy, Debug, Drop)]
 pub enum Line<'a> {
     Text(Pieces<'a>),
     Border {
@@ -15,6 +16,28 @@ pub enum Line<'a> {
         segments: &'a [u8],
         holes: Holes<'a>,
     },
+}
+
+// By hand: a call of the derived `clone` beside Copy has two lifetimes, which this kit's borrow checker does not cover.
+impl<'a> Clone for Line<'a> {
+    ghost is_clone = { λ a b. b ≡ a };
+
+    ghost is_infallible = { λ _. ⊤ };
+
+    fn clone(&self) -> Result<Self, AllocError> {
+        match self {
+            Line::Text(pieces) => Ok(Line::Text(pieces.clone()?)),
+            Line::Border {
+                annotation: a,
+                segments: s,
+                holes: h,
+            } => Ok(Line::Border {
+                annotation: *a,
+                segments: s,
+                holes: h.clone()?,
+            }),
+        }
+    }
 }
 
 // The lines of a sheet. They are over at the first name that waits and at the first hanging cell.
@@ -73,8 +96,19 @@ impl<'a> FromField<'a> for Line<'a> {
 }
 
 // A line of a hanging cell, where no names wait.
-#[derive(Clone, Copy, Debug, Drop)]
+#[derive(Copy, Debug, Drop)]
 pub struct CellLine<'a>(pub Line<'a>);
+
+// By hand, as that of a `Line`.
+impl<'a> Clone for CellLine<'a> {
+    ghost is_clone = { λ a b. b ≡ a };
+
+    ghost is_infallible = { λ _. ⊤ };
+
+    fn clone(&self) -> Result<Self, AllocError> {
+        Ok(CellLine(self.0.clone()?))
+    }
+}
 
 // The lines of a hanging cell. They are over at its end, and at a hanging cell in it, where bytes are left.
 pub type CellLines<'a> = Walk<'a, CellLine<'a>>;
