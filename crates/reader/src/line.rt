@@ -18,7 +18,7 @@ pub enum Line<'a> {
     },
 }
 
-// By hand: a call of the derived `clone` beside Copy has two lifetimes, which this kit's borrow checker does not cover.
+// By hand: where Copy and Clone are both derived, `line.clone()` has two lifetimes, which this kit's borrow checker does not cover.
 impl<'a> Clone for Line<'a> {
     ghost is_clone = { λ a b. b ≡ a };
 
